@@ -1,0 +1,25 @@
+-- Laws of the tally: when it is full, and what a raised count is.
+use Prim.Native.Nat.{ℕ, _+_}
+use borrow.Author.Tests.{eq-eqb, ne-eqb}
+use lib.Dec.{eqb}
+use mathlib.Core.Bool.{true}
+use mathlib.Core.Path.{_≡_}
+use Rattle.bench.specs.Counts.{full, limit, raised}
+use Rattle.bench.specs.declared.tally.Tally.{Tally}
+use Rattle.frame.proofs.Picks.{pick-false}
+
+pub full-by-good : (t : Tally) → t .good ≡ limit → full t ≡ true
+unfolding full
+full-by-good t e = simp (eq-eqb (t .good) limit e)
+
+pub full-by-error : (t : Tally) → (t .good ≡ limit → ⊥) → t .error ≡ limit → full t ≡ true
+unfolding full
+full-by-error t g e = simp (ne-eqb (t .good) limit g, eq-eqb (t .error) limit e)
+
+pub full-by-dropped : (t : Tally) → (t .good ≡ limit → ⊥) → (t .error ≡ limit → ⊥) → full t ≡ eqb (t .dropped) limit
+unfolding full
+full-by-dropped t g e = simp (ne-eqb (t .good) limit g, ne-eqb (t .error) limit e)
+
+pub raised-below : (n : ℕ) → (n ≡ limit → ⊥) → raised n ≡ n + 1
+unfolding raised
+raised-below n h = simp (ne-eqb n limit h, pick-false)

@@ -1,0 +1,3 @@
+// The bench: calls on a state of image, output, cursor and tally (document 01, "Answer numbers of a call").
+pub mod outcome;
+pub mod tally;

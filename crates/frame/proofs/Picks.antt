@@ -1,0 +1,18 @@
+-- Laws of `pick`, the choice by a test: what it is where the test is known, and the proof by cases.
+use mathlib.Core.Bool.{Bool, true, false}
+use mathlib.Core.Path.{_≡_, refl, subst, sym}
+use Rattle.frame.specs.Bytes.{pick}
+
+pub pick-true {ℓ} : {X : Type ℓ} (x y : X) → pick true x y ≡ x
+unfolding pick
+pick-true x y = refl
+
+pub pick-false {ℓ} : {X : Type ℓ} (x y : X) → pick false x y ≡ y
+unfolding pick
+pick-false x y = refl
+
+-- a property of both outcomes, each under what the test then says, is one of the choice
+pub by-test {ℓ κ} : {X : Type ℓ} (P : X → Type κ) (test : Bool) {x y : X} → (test ≡ true → P x) → (test ≡ false → P y) → P (pick test x y)
+unfolding pick
+by-test P true yes-case no-case = yes-case refl
+by-test P false yes-case no-case = no-case refl

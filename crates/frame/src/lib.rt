@@ -1,0 +1,2 @@
+// Frames of the reader protocol (document 01, "The frame" and "Finding a command").
+pub mod finding;
