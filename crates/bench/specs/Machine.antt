@@ -1,7 +1,7 @@
 -- Document 01, "Demand 2's machine": a state, one step for each call, and the run of a list of calls.
 use Prim.Native.Nat.{ℕ, _+_}
 use mathlib.Core.Bool.{Bool, not}
-use mathlib.Core.List.{List, [], _∷_, _++_}
+use mathlib.Core.List.{List, [], _∷_}
 use lib.Dec.{ltb}
 use lib.ListN.{length, drop}
 use Rattle.bench.specs.Counts.{full, withGood, withError, withDropped}
@@ -10,7 +10,7 @@ use Rattle.bench.specs.declared.outcome.Outcome.the-variants.{Answered, 
 use Rattle.bench.specs.declared.tally.Tally.{Tally}
 use Rattle.frame.specs.Bytes.{pick}
 use Rattle.frame.specs.Finding.{find, codeIn, parametersIn}
-use Rattle.frame.specs.Frames.{frameLength, longestAnswer}
+use Rattle.frame.specs.Frames.{frameLength, longestAnswer, written}
 use Rattle.frame.specs.declared.finding.Found.{Found}
 use Rattle.frame.specs.declared.finding.Found.the-variants.{End, Drop, Wait, Accept}
 use Rattle.tag.specs.Answers.{answer, changed, isError}
@@ -58,10 +58,6 @@ dropped s =
       length = 0;
       next = record { image = s .image; output = s .output; cursor = s .cursor + 1; tally = withDropped (s .tally) };
     }
-
--- "Bytes of the output behind the written frame stay."
-unfoldable pub written : List ℕ → List ℕ → List ℕ
-written frame output = frame ++ drop (length frame) output
 
 -- "Each answer 0 or 3 raises exactly one of them by one"
 unfoldable pub counted : Act → Tally → Tally

@@ -1,7 +1,7 @@
 -- Document 01, "The frame".
 use Prim.Native.Nat.{ℕ, _+_, _%_}
 use mathlib.Core.List.{List, [], _∷_, _++_}
-use lib.ListN.{length}
+use lib.ListN.{length, drop}
 use Rattle.frame.specs.Bytes.{twoBytes}
 
 -- "Check is the sum of all bytes from type to the last parameter, modulo 256."
@@ -30,3 +30,7 @@ longestCommand = 80
 
 unfoldable pub longestAnswer : ℕ
 longestAnswer = 136
+
+-- "Answer numbers of a call": "one frame at the start of the output"; "Bytes of the output behind the written frame stay."
+unfoldable pub written : List ℕ → List ℕ → List ℕ
+written frame output = frame ++ drop (length frame) output

@@ -1,2 +1,3 @@
 // Frames of the reader protocol (document 01, "The frame" and "Finding a command").
+pub mod bytes;
 pub mod finding;
