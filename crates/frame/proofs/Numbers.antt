@@ -1,10 +1,10 @@
 -- Laws of the bytes and numbers in a list: behind the end they are 0.
-use Prim.Native.Nat.{ℕ, _+_, _≤_}
+use Prim.Native.Nat.{ℕ, _+_, _≤_, _<_}
 use lib.ListN.{length, List·getD-eq-default}
-use mathlib.Core.List.{List}
-use mathlib.Core.Path.{_≡_, sym}
+use mathlib.Core.List.{List, [], _∷_}
+use mathlib.Core.Path.{_≡_, refl}
 use native.Mathlib.Omega.{arith}
-use Rattle.frame.specs.Bytes.{byte, number, double}
+use Rattle.frame.specs.Bytes.{byte, number, double, twoBytes}
 
 pub byte-behind : (bytes : List ℕ) (i : ℕ) → length bytes ≤ i → byte bytes i ≡ 0
 unfolding byte
@@ -17,3 +17,15 @@ number-behind bytes i h = simp (byte-behind bytes i h, byte-behind bytes (i + 1)
 pub double-behind : (bytes : List ℕ) (i : ℕ) → length bytes ≤ i → 0 ≡ double bytes i
 unfolding double
 double-behind bytes i h = simp (← (number-behind bytes i h), ← (number-behind bytes (i + 2) (omega arith)))
+
+pub number-two-bytes : (n : ℕ) → n < 65536 → number (twoBytes n) 0 ≡ n
+unfolding number byte twoBytes
+number-two-bytes n h = omega arith
+
+pub length-two-bytes : (n : ℕ) → length (twoBytes n) ≡ 2
+unfolding twoBytes
+length-two-bytes n = refl
+
+pub byte-one : (b : ℕ) → byte (b ∷ []) 0 ≡ b
+unfolding byte
+byte-one b = refl

@@ -1,0 +1,310 @@
+-- The claims page: all that is promised of the machine, each as a named statement with the papers' words beside it. Who trusts
+-- the prover reads this page and the definitions that it cites. Each statement is proved in proofs/Claimed.antt.
+use Prim.Native.Nat.{ℕ, _+_, _*_, _/_, _%_, _^_, _≤_, _<_}
+use mathlib.Core.Bool.{Bool, true, false, not, _&&_, _||_}
+use mathlib.Core.List.{List, [], _∷_, map}
+use mathlib.Core.Logic.{_⊎_, _≢_}
+use mathlib.Core.Path.{_≡_}
+use lib.Dec.{eqb, leb, ltb}
+use lib.ListN.{length, take, drop, replicate}
+use Rattle.bench.specs.Counts.{freshTally}
+use Rattle.bench.specs.Machine.{State, Call, call, Step, numberOf, inputOf, restOf, actIn, step, run, after}
+use Rattle.bench.specs.Sample.{cases, given, expected}
+use Rattle.bench.specs.Secrecy.{passwordsAt, EqualElsewhere, Hidden, Command, accepted, noneCarries, SameCall, Throughout}
+use Rattle.bench.specs.declared.tally.Tally.{Tally}
+use Rattle.frame.specs.Bytes.{pick, byte, number, part, twoBytes}
+use Rattle.frame.specs.Finding.{codeIn, parametersIn}
+use Rattle.frame.specs.Frames.{sum}
+use Rattle.tag.specs.Answers.{answer}
+use Rattle.tag.specs.Commands.{bankIn, pointerIn, countIn, dataIn, ldIn, gone, readVerdict, writeVerdict}
+use Rattle.tag.specs.Image.{good, view, bankOf, endOf, wordAt, killPassword, accessPassword}
+use Rattle.tag.specs.Locks.{pairs, bitsOf, standingOf, isWrong, allows, mayRead, mayWrite, newPair, newPairs}
+use Rattle.tag.specs.declared.commands.Act.the-variants.{TagError}
+use Rattle.tag.specs.declared.image.View.{View}
+use Rattle.tag.specs.declared.locks.Pairs.{Pairs}
+use Rattle.tag.specs.declared.locks.Standing.{Standing}
+use Rattle.tag.specs.declared.locks.Standing.the-variants.{Secured, Open, Wrong}
+
+-- the answer number of a call, and the code and parameters of the command in front of it
+abbrev pub answerOf : Call → State → ℕ
+answerOf c s = numberOf (step c s .outcome)
+
+abbrev pub codeOf : Call → State → ℕ
+codeOf c s = codeIn (restOf c s)
+
+abbrev pub parametersOf : Call → State → List ℕ
+parametersOf c s = parametersIn (restOf c s)
+
+abbrev pub start : List ℕ → List ℕ → ℕ → Tally → State
+start image output cursor tally = record { image = image; output = output; cursor = cursor; tally = tally }
+
+-- ---- Demand 1: every call ends with one named answer
+
+-- the first row whose test holds gives the value; where none holds, the last one is given
+unfoldable pub firstOf {ℓ} : {X : Type ℓ} → List (Bool × X) → X → X
+firstOf [] last = last
+firstOf (row ∷ rows) last = pick (row .0) (row .1) (firstOf rows last)
+
+-- "Tests in the order 10, 11, 12, 13, then the finding rules; each is given exactly then." Finding: "1. nothing left", "2. first byte
+-- not BB", "3. second byte there and not 00", "4. five bytes there and PL above 80", "5. frame not all there", "6. check wrong, or
+-- last byte not 7E", "7. else the frame is accepted".
+abbrev pub AnswerNumbers : Type 0
+AnswerNumbers =
+    (c : Call) (s : State)
+    → answerOf c s
+    ≡ firstOf
+    ((ltb (length (inputOf c)) (s .cursor), 10)
+    ∷ (not (good (s .image)), 11)
+    ∷ (ltb (length (s .output)) 136, 12)
+    ∷ (eqb (s .tally .good) 4294967295, 13)
+    ∷ (eqb (s .tally .error) 4294967295, 13)
+    ∷ (eqb (s .tally .dropped) 4294967295, 13)
+    ∷ (eqb (length (restOf c s)) 0, 1)
+    ∷ (not (eqb (byte (restOf c s) 0) 0xBB), 3)
+    ∷ (leb 2 (length (restOf c s)) && not (eqb (byte (restOf c s) 1) 0x00), 3)
+    ∷ (leb 5 (length (restOf c s)) && ltb 80 (number (restOf c s) 3), 3)
+    ∷ (ltb (length (restOf c s)) (7 + number (restOf c s) 3), 2)
+    ∷ (not (eqb (byte (restOf c s) (5 + number (restOf c s) 3)) (sum (part (restOf c s) 1 (4 + number (restOf c s) 3)) % 256)), 3)
+    ∷ (not (eqb (byte (restOf c s) (6 + number (restOf c s) 3)) 0x7E), 3)
+    ∷ [])
+    0
+
+-- "a refused call changes neither image, output, cursor nor tally"; "Under 1, 2 and 10 to 13 the next state is the old one"; "The call
+-- reports the length written, 0 in all other cases."
+abbrev pub NothingChanges : Type 0
+NothingChanges = (c : Call) (s : State) → answerOf c s ≢ 0 → answerOf c s ≢ 3 → (step c s .next ≡ s) × (step c s .length ≡ 0)
+
+-- "A drop takes exactly one byte"; "under 3 only cursor and tally change"
+abbrev pub DropTakesOneByte : Type 0
+DropTakesOneByte =
+    (c : Call) (s : State)
+    → answerOf c s ≡ 3
+    → (step c s .length ≡ 0)
+    × (step c s .next
+      ≡ record {
+        image = s .image;
+        output = s .output;
+        cursor = s .cursor + 1;
+        tally = record { good = s .tally .good; error = s .tally .error; dropped = s .tally .dropped + 1 }
+      })
+
+-- 0: "one frame at the start of the output; cursor moves over the command"; "Answers have at most 136 bytes."; "Bytes of the output
+-- behind the written frame stay."
+pub record OneFrame (c : Call) (s : State) : Type 0 where
+  pub frame-first : take (step c s .length) (step c s .next .output) ≡ answer (s .image) (actIn s (restOf c s))
+  pub at-most-136 : step c s .length ≤ 136
+  pub behind-stays : drop (step c s .length) (step c s .next .output) ≡ drop (step c s .length) (s .output)
+  pub room-stays : length (step c s .next .output) ≡ length (s .output)
+  pub over-the-command : step c s .next .cursor ≡ s .cursor + (7 + number (restOf c s) 3)
+  pub not-past-the-end : step c s .next .cursor ≤ length (inputOf c)
+
+abbrev pub AnswerIsOneFrame : Type 0
+AnswerIsOneFrame = (c : Call) (s : State) → answerOf c s ≡ 0 → OneFrame c s
+
+-- how many steps of a run pass a test; "An error answer is one with code FF."
+unfoldable pub count : (Step → Bool) → List Step → ℕ
+count test [] = 0
+count test (x ∷ steps) = pick (test x) 1 0 + count test steps
+
+unfoldable pub isGood : Step → Bool
+isGood x = eqb (numberOf (x .outcome)) 0 && not (eqb (byte (x .next .output) 2) 0xFF)
+
+unfoldable pub isError : Step → Bool
+isError x = eqb (numberOf (x .outcome)) 0 && eqb (byte (x .next .output) 2) 0xFF
+
+unfoldable pub isDropped : Step → Bool
+isDropped x = eqb (numberOf (x .outcome)) 3
+
+-- "Each answer 0 or 3 raises exactly one of them by one; nothing else does." "counts equal those at the start plus the number of such
+-- calls in the history"
+abbrev pub History : Type 0
+History =
+    (calls : List Call) (s : State)
+    → after calls s .tally
+    ≡ record {
+      good = s .tally .good + count isGood (run calls s);
+      error = s .tally .error + count isError (run calls s);
+      dropped = s .tally .dropped + count isDropped (run calls s)
+    }
+
+-- "From cursor 0 of n bytes (n at most 65,536), with a good image, an output of 136 bytes and a fresh tally, at most n calls answer 0
+-- or 3 before one answers 1 or 2." The output may also be longer.
+unfoldable pub takes : Step → Bool
+takes x = eqb (numberOf (x .outcome)) 0 || eqb (numberOf (x .outcome)) 3
+
+abbrev pub Bound : Type 0
+Bound =
+    (input image output : List ℕ)
+    → length input ≤ 65536
+    → good image ≡ true
+    → 136 ≤ length output
+    → (k : ℕ)
+    × (k ≤ length input)
+    × (count takes (run (replicate k (call input)) (start image output 0 freshTally)) ≡ k)
+    × ((answerOf (call input) (after (replicate k (call input)) (start image output 0 freshTally)) ≡ 1)
+      ⊎ (answerOf (call input) (after (replicate k (call input)) (start image output 0 freshTally)) ≡ 2))
+
+-- ---- Demand 2: each command has its effect and answer
+
+-- "The starred cases": answer, frame and the whole state that is left
+abbrev pub Starred : Type 0
+Starred = map given cases ≡ map expected cases
+
+-- "After every call a good image is good."
+abbrev pub GoodStaysGood : Type 0
+GoodStaysGood = (calls : List Call) (s : State) → good (s .image) ≡ true → good (after calls s .image) ≡ true
+
+-- `bytes` stand from `at` on, and all else is as before
+pub record Overwritten (at : ℕ) (bytes old new : List ℕ) : Type 0 where
+  pub before-stays : take at new ≡ take at old
+  pub stored : part new at (length bytes) ≡ bytes
+  pub behind-stays : drop (at + length bytes) new ≡ drop (at + length bytes) old
+
+-- "a write lands whole or not at all": with an error answer nothing is stored, with a good one all of it
+pub record Effect (c : Call) (s : State) (at : ℕ) (bytes : List ℕ) : Type 0 where
+  pub error-stores-nothing : isError (step c s) ≡ true → step c s .next .image ≡ s .image
+  pub good-stores-all : isGood (step c s) ≡ true → Overwritten at bytes (s .image) (step c s .next .image)
+
+-- "only on the named words": they are in the named bank, and each has its two data bytes
+pub record NamedWords (image p : List ℕ) : Type 0 where
+  pub bank-known : bankIn p ≤ 3
+  pub in-the-bank : pointerIn p + countIn p ≤ bankOf (view image) (bankIn p) .words
+  pub all-of-them : length (dataIn p) ≡ 2 * countIn p
+
+abbrev pub WriteEffect : Type 0
+WriteEffect =
+    (c : Call) (s : State)
+    → codeOf c s ≡ 0x49
+    → Effect c s (wordAt (bankOf (view (s .image)) (bankIn (parametersOf c s))) (pointerIn (parametersOf c s))) (dataIn (parametersOf c s))
+    × (isGood (step c s) ≡ true → NamedWords (s .image) (parametersOf c s))
+
+-- "all pairs are stored": bytes 20 and 21; LD bits 19 to 10 are the mask, 9 to 0 the action
+abbrev pub pairsAfter : State → List ℕ → Pairs
+pairsAfter s p = newPairs (pairs (ldIn p / 1024)) (pairs (ldIn p % 1024)) (pairs (view (s .image) .locks))
+
+abbrev pub LockEffect : Type 0
+LockEffect = (c : Call) (s : State) → codeOf c s ≡ 0x82 → Effect c s 20 (twoBytes (bitsOf (pairsAfter s (parametersOf c s))))
+
+-- "state becomes 1": byte 22
+abbrev pub KillEffect : Type 0
+KillEffect = (c : Call) (s : State) → codeOf c s ≡ 0x65 → Effect c s 22 (1 ∷ [])
+
+abbrev pub NoOtherEffect : Type 0
+NoOtherEffect = (c : Call) (s : State) → codeOf c s ≢ 0x49 → codeOf c s ≢ 0x82 → codeOf c s ≢ 0x65 → step c s .next .image ≡ s .image
+
+-- "Gap bytes never change.": those behind the header and in no bank
+abbrev pub GapsStay : Type 0
+GapsStay =
+    (c : Call) (s : State) (i : ℕ)
+    → good (s .image) ≡ true
+    → 24 ≤ i
+    → ((bank : ℕ) → bank ≤ 3 → (i < bankOf (view (s .image)) bank .offset) ⊎ (endOf (bankOf (view (s .image)) bank) ≤ i))
+    → byte (step c s .next .image) i ≡ byte (s .image) i
+
+-- ---- Document 01's tables
+
+-- "Pairs, from bit 9 down: kill 9,8; access 7,6; EPC 5,4; TID 3,2; User 1,0."
+abbrev pub bit : ℕ → ℕ → ℕ
+bit n k = n / 2 ^ k % 2
+
+abbrev pub PairBits : Type 0
+PairBits =
+    (n : ℕ)
+    → pairs n
+    ≡ record {
+      kill = 2 * bit n 9 + bit n 8;
+      access = 2 * bit n 7 + bit n 6;
+      epc = 2 * bit n 5 + bit n 4;
+      tid = 2 * bit n 3 + bit n 2;
+      user = 2 * bit n 1 + bit n 0
+    }
+
+-- The lock table: "00, 01" free; "10 .. only when secured"; "11 .. neither", "no write".
+pub record LockTable : Type 0 where
+  pub free-00 : (s : Standing) → allows 0b00 s ≡ true
+  pub free-01 : (s : Standing) → allows 0b01 s ≡ true
+  pub secured-10 : allows 0b10 Secured ≡ true
+  pub open-10 : allows 0b10 Open ≡ false
+  pub wrong-10 : allows 0b10 Wrong ≡ false
+  pub never-11 : (s : Standing) → allows 0b11 s ≡ false
+
+abbrev pub passwordRule : View → Standing → ℕ → ℕ → Bool
+passwordRule v s pointer n =
+    (not (ltb pointer 2) || allows (pairs (v .locks) .kill) s) && (not (ltb 2 (pointer + n)) || allows (pairs (v .locks) .access) s)
+
+-- Which pair rules which region: Reserved words 0-1 are the kill password's, 2-3 the access password's, to read and to write; EPC, TID
+-- and User have a pair for writing and "can always be read".
+pub record Regions (v : View) (s : Standing) (pointer n : ℕ) : Type 0 where
+  pub passwords-read : 1 ≤ n → pointer + n ≤ 4 → mayRead v s 0 pointer n ≡ passwordRule v s pointer n
+  pub passwords-write : 1 ≤ n → pointer + n ≤ 4 → mayWrite v s 0 pointer n ≡ passwordRule v s pointer n
+  pub epc-read : mayRead v s 1 pointer n ≡ true
+  pub tid-read : mayRead v s 2 pointer n ≡ true
+  pub user-read : mayRead v s 3 pointer n ≡ true
+  pub epc-write : mayWrite v s 1 pointer n ≡ allows (pairs (v .locks) .epc) s
+  pub tid-write : mayWrite v s 2 pointer n ≡ allows (pairs (v .locks) .tid) s
+  pub user-write : mayWrite v s 3 pointer n ≡ allows (pairs (v .locks) .user) s
+
+-- "Testing the lock before the range" is an error: whatever the locks, words that the bank does not have answer A3 and B3.
+pub record RangeBeforeLock (v : View) (s : Standing) (bank pointer n : ℕ) (words : List ℕ) : Type 0 where
+  pub read : gone v ≡ false → isWrong s ≡ false → bankOf v bank .words < pointer + n → readVerdict v s bank pointer n ≡ TagError 0xA3
+  pub write : gone v ≡ false → isWrong s ≡ false → bankOf v bank .words < pointer + n → writeVerdict v s bank pointer n words ≡ TagError 0xB3
+
+-- "A tag is secured for one command if its stored access password is zero and the command's is zero, or the command's is nonzero and
+-- equal. A nonzero password that differs is wrong, also where the stored one is zero. A zero password against a nonzero stored one
+-- leaves the tag open."
+pub record Standings (stored given : ℕ) : Type 0 where
+  pub both-zero : standingOf 0 0 ≡ Secured
+  pub equal : given ≢ 0 → standingOf given given ≡ Secured
+  pub differs : given ≢ 0 → given ≢ stored → standingOf stored given ≡ Wrong
+  pub zero-given : stored ≢ 0 → standingOf stored 0 ≡ Open
+
+-- "A new pair takes masked bits from the action, others from the old pair."
+pub record NewPair (action old : ℕ) : Type 0 where
+  pub masked-00 : newPair 0b00 action old ≡ old
+  pub masked-01 : newPair 0b01 action old ≡ 2 * (old / 2) + action % 2
+  pub masked-10 : newPair 0b10 action old ≡ 2 * (action / 2) + old % 2
+  pub masked-11 : newPair 0b11 action old ≡ action
+
+-- "If a pair whose permalock bit is set would change: C4, nothing changes.": a Lock that is answered good keeps each such pair
+pub record Permalocks (old new : Pairs) : Type 0 where
+  pub kill : old .kill % 2 ≡ 1 → new .kill ≡ old .kill
+  pub access : old .access % 2 ≡ 1 → new .access ≡ old .access
+  pub epc : old .epc % 2 ≡ 1 → new .epc ≡ old .epc
+  pub tid : old .tid % 2 ≡ 1 → new .tid ≡ old .tid
+  pub user : old .user % 2 ≡ 1 → new .user ≡ old .user
+
+abbrev pub PermalockRule : Type 0
+PermalockRule =
+    (c : Call) (s : State)
+    → codeOf c s ≡ 0x82
+    → isGood (step c s) ≡ true
+    → Permalocks (pairs (view (s .image) .locks)) (pairsAfter s (parametersOf c s))
+
+-- ---- Demand 3: the log does not tell the passwords
+
+-- "Take two good images that differ only in the eight password bytes. All four passwords are nonzero, and both password regions are
+-- locked, for good or not." "Of the commands accepted in either run, no Read, Write or Lock carries an access password of either
+-- image, and no Kill a kill password of either." "with the same cursor, tally and output bytes, whatever these are"
+pub record Premises (a b output : List ℕ) (cursor : ℕ) (tally : Tally) (calls : List Call) : Type 0 where
+  pub first-good : good a ≡ true
+  pub second-good : good b ≡ true
+  pub differ-only : EqualElsewhere (passwordsAt a) a b
+  pub first-hidden : Hidden a
+  pub second-hidden : Hidden b
+  pub first-run : noneCarries a b (accepted calls (start a output cursor tally)) ≡ true
+  pub second-run : noneCarries a b (accepted calls (start b output cursor tally)) ≡ true
+
+-- "Then every call of the list gives the same answer number and length in both runs, and leaves the same output bytes, cursor and
+-- counts. The password bytes stay in each run as they were, and the images stay equal elsewhere." For a list of calls of any length.
+abbrev pub Demand3 : Type 0
+Demand3 =
+    (a b output : List ℕ) (cursor : ℕ) (tally : Tally) (calls : List Call)
+    → Premises a b output cursor tally calls
+    → Throughout (SameCall a b) (run calls (start a output cursor tally)) (run calls (start b output cursor tally))
+
+-- The premises can be met, by images that do differ, with an accepted Read, Write, Lock and Kill.
+pub record PremisesMet (a b output : List ℕ) (calls : List Call) : Type 0 where
+  pub premises : Premises a b output 0 freshTally calls
+  pub kill-differs : killPassword a ≢ killPassword b
+  pub access-differs : accessPassword a ≢ accessPassword b
+  pub four-commands : map (λ m. m .code) (accepted calls (start a output 0 freshTally)) ≡ 0x39 ∷ 0x49 ∷ 0x82 ∷ 0x65 ∷ []

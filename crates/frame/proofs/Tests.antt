@@ -1,0 +1,38 @@
+-- Laws of tests joined by "and", and of lists of tests.
+use Prim.Native.Nat.{ℕ, zero, suc}
+use lib.ListN.{getD}
+use mathlib.Core.Bool.{Bool, true, false, _&&_}
+use mathlib.Core.List.{List, [], _∷_}
+use mathlib.Core.Path.{_≡_, refl}
+use Rattle.frame.specs.Bytes.{all}
+
+pub and-left : (a b : Bool) → (a && b) ≡ true → a ≡ true
+and-left true b h = refl
+and-left false b h = h
+
+pub and-right : (a b : Bool) → (a && b) ≡ true → b ≡ true
+and-right true b h = h
+and-right false b h = cc
+
+pub and-both : (a b : Bool) → a ≡ true → b ≡ true → (a && b) ≡ true
+and-both a b h k = simp (h, k)
+
+-- test k of a list of which every test holds
+pub all-at : (ts : List Bool) (k : ℕ) → all ts ≡ true → getD ts k true ≡ true
+unfolding all
+all-at [] k h = refl
+all-at (t ∷ ts) zero h = and-left t (all ts) h
+all-at (t ∷ ts) (suc k) h = all-at ts k (and-right t (all ts) h)
+
+pub all-cons : (t : Bool) (ts : List Bool) → t ≡ true → all ts ≡ true → all (t ∷ ts) ≡ true
+unfolding all
+all-cons t ts h k = and-both t (all ts) h k
+
+pub all-nil : all [] ≡ true
+unfolding all
+all-nil = refl
+
+-- a proof by whether a test holds
+pub either {ℓ} : {C : Type ℓ} (test : Bool) → (test ≡ true → C) → (test ≡ false → C) → C
+either true yes-case no-case = yes-case refl
+either false yes-case no-case = no-case refl

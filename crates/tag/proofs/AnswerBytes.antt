@@ -1,0 +1,80 @@
+-- Answer frames: no longer than 136 bytes, and code FF exactly for an error.
+use Prim.Native.Nat.{ℕ, _+_, _*_, _≤_}
+use borrow.Author.Tests.{eq-eqb}
+use lib.Dec.{eqb}
+use lib.ListN.{length, length-append}
+use mathlib.Core.Bool.{Bool, true}
+use mathlib.Core.List.{List, [], _∷_, _++_}
+use mathlib.Core.Path.{_≡_, refl, ap, _∙_}
+use native.Mathlib.Omega.{arith}
+use Rattle.crc.specs.Crc.{tagCrc}
+use Rattle.frame.proofs.FrameBytes.{length-frame, code-frame, length-part}
+use Rattle.frame.proofs.Numbers.{length-two-bytes}
+use Rattle.frame.specs.Bytes.{byte, part, twoBytes}
+use Rattle.frame.specs.Frames.{frameOf, written}
+use Rattle.tag.proofs.Acts.{Reads, placeOf, act-cases}
+use Rattle.tag.proofs.GoodImages.{Good, good-facts}
+use Rattle.tag.specs.Answers.{pcAndEpc, tail, answer, isError}
+use Rattle.tag.specs.Commands.{countIn, actOf}
+use Rattle.tag.specs.Image.{good, view, rssi, wordAt, epcLength}
+use Rattle.tag.specs.declared.commands.Act.{Act}
+use Rattle.tag.specs.declared.commands.Act.the-variants.{PlainError, TagError, Notify, Give, Store, SetLocks, SetKilled}
+
+module _ (image : List ℕ) (g : Good (view image)) where
+  pc-and-epc-most : length (pcAndEpc image) ≤ 64
+  unfolding pcAndEpc
+  pc-and-epc-most = omega (arith, length-part image (wordAt (view image .epc) 1) (2 + 2 * epcLength (view image .pc)), g .epc-fits, g .epc-most)
+
+  tail-most : length (tail image) ≤ 65
+  unfolding tail
+  tail-most = omega (arith, pc-and-epc-most)
+
+  done-most : (code : ℕ) → length (frameOf 0x01 code (tail image ++ (0x00 ∷ []))) ≤ 136
+  done-most code = omega (arith, length-frame 0x01 code (tail image ++ (0x00 ∷ [])), length-append (tail image) (0x00 ∷ []), tail-most)
+
+  notify-most : length (answer image Notify) ≤ 136
+  unfolding answer
+  notify-most =
+      let crc : List ℕ = twoBytes (tagCrc (pcAndEpc image)) in
+      omega
+      (arith,
+      length-frame 0x02 0x22 (rssi image ∷ (pcAndEpc image ++ crc)),
+      length-append (pcAndEpc image) crc,
+      length-two-bytes (tagCrc (pcAndEpc image)),
+      pc-and-epc-most)
+
+  give-most : (at n : ℕ) → n ≤ 64 → length (answer image (Give at n)) ≤ 136
+  unfolding answer
+  give-most at n h =
+      omega
+      (arith,
+      length-frame 0x01 0x39 (tail image ++ part image at n),
+      length-append (tail image) (part image at n),
+      length-part image at n,
+      tail-most)
+
+-- "Answers have at most 136 bytes."
+pub answer-most : (image p : List ℕ) (code : ℕ) → good image ≡ true → length (answer image (actOf image code p)) ≤ 136
+unfolding answer
+answer-most image p code h =
+    let g : Good (view image) = good-facts image h in
+    act-cases (λ (act : Act). length (answer image act) ≤ 136)
+    (λ e. omega (arith, length-frame 0x01 0xFF (e ∷ [])))
+    (λ e. omega (arith, length-frame 0x01 0xFF (e ∷ tail image), tail-most image g))
+    image p code
+    (λ n. notify-most image g)
+    (λ n reads. give-most image g (placeOf image p) (2 * countIn p) (omega (arith, reads .aim .count-most)))
+    (λ n writes. done-most image g 0x49)
+    (λ n secured. done-most image g 0x82)
+    (λ n equal. done-most image g 0x65)
+
+-- "An error answer is one with code FF."
+pub error-code : (image : List ℕ) (act : Act) (output : List ℕ) → eqb (byte (written (answer image act) output) 2) 0xFF ≡ isError act
+unfolding answer isError
+error-code image (PlainError e) output = rw (code-frame 0x01 0xFF (e ∷ []) output)
+error-code image (TagError e) output = rw (code-frame 0x01 0xFF (e ∷ tail image) output)
+error-code image Notify output = rw (code-frame 0x02 0x22 (rssi image ∷ (pcAndEpc image ++ twoBytes (tagCrc (pcAndEpc image)))) output)
+error-code image (Give at n) output = rw (code-frame 0x01 0x39 (tail image ++ part image at n) output)
+error-code image (Store at) output = rw (code-frame 0x01 0x49 (tail image ++ (0x00 ∷ [])) output)
+error-code image (SetLocks bits) output = rw (code-frame 0x01 0x82 (tail image ++ (0x00 ∷ [])) output)
+error-code image SetKilled output = rw (code-frame 0x01 0x65 (tail image ++ (0x00 ∷ [])) output)
