@@ -1,3 +1,5 @@
+pub mod Closings
+pub mod Lengths
 pub mod Numbers
 pub mod Picks
 pub mod Rules
