@@ -1,3 +1,4 @@
+pub mod Accepting
 pub mod Closings
 pub mod Lengths
 pub mod Numbers
