@@ -10,7 +10,6 @@ use native.Mathlib.Omega.{arith}
 use Rattle.frame.specs.Bytes.{byte, part}
 use Rattle.frame.specs.Finding.{find, plIn, checkRight, endRight}
 use Rattle.frame.specs.Frames.{checkOf, frameLength, longestCommand}
-use Rattle.frame.specs.declared.finding.Found.{Found}
 use Rattle.frame.specs.declared.finding.Found.the-variants.{End, Drop, Wait, Accept}
 use Rattle.frame.proofs.Picks.{pick-true, pick-false}
 
