@@ -11,9 +11,10 @@ use Rattle.bench.specs.Counts.{full}
 use Rattle.bench.specs.Machine.{State, Call, Step, numberOf, unchanged, dropped, answered, actIn, afterFinding, inputOf, restOf, step}
 use Rattle.bench.specs.declared.outcome.Outcome.{Outcome}
 use Rattle.bench.specs.declared.outcome.Outcome.the-variants.{Answered, AtEnd, Incomplete, Dropped, PastEnd, BadImage, ShortOutput, FullTally}
-use Rattle.frame.proofs.Finds.{Accepted, find-cases}
+use Rattle.frame.proofs.Accepting.{Accepted}
+use Rattle.frame.proofs.Finds.{find-cases}
 use Rattle.frame.proofs.Picks.{by-test, pick-false}
-use Rattle.frame.specs.Finding.{find, plIn}
+use Rattle.frame.specs.Finding.{find}
 use Rattle.frame.specs.Frames.{longestAnswer}
 use Rattle.frame.specs.declared.finding.Found.{Found}
 use Rattle.tag.specs.Image.{good}
@@ -33,7 +34,7 @@ step-ready c s r =
 module _ (c : Call) (s : State) (P : Step → Type 0) where
   pub found-cases : P (unchanged s AtEnd) → P (unchanged s Incomplete)
       → (1 ≤ length (restOf c s) → P (dropped s))
-      → (Accepted (restOf c s) → P (answered s (restOf c s) (plIn (restOf c s)) (actIn s (restOf c s))))
+      → ((pl : ℕ) → Accepted (restOf c s) pl → P (answered s (restOf c s) pl (actIn s (restOf c s))))
       → P (afterFinding s (restOf c s) (find (restOf c s)))
   unfolding afterFinding
   found-cases at-end incomplete drops answers =
@@ -41,14 +42,14 @@ module _ (c : Call) (s : State) (P : Step → Type 0) where
 
   pub ready-cases : Ready c s → P (unchanged s AtEnd) → P (unchanged s Incomplete)
       → (1 ≤ length (restOf c s) → P (dropped s))
-      → (Accepted (restOf c s) → P (answered s (restOf c s) (plIn (restOf c s)) (actIn s (restOf c s))))
+      → ((pl : ℕ) → Accepted (restOf c s) pl → P (answered s (restOf c s) pl (actIn s (restOf c s))))
       → P (step c s)
   ready-cases r at-end incomplete drops answers =
       subst P (sym (step-ready c s r)) (found-cases at-end incomplete drops answers)
 
   pub step-cases : ((o : Outcome) → numberOf o ≢ 0 → numberOf o ≢ 3 → P (unchanged s o))
       → (Ready c s → 1 ≤ length (restOf c s) → P (dropped s))
-      → (Ready c s → Accepted (restOf c s) → P (answered s (restOf c s) (plIn (restOf c s)) (actIn s (restOf c s))))
+      → (Ready c s → (pl : ℕ) → Accepted (restOf c s) pl → P (answered s (restOf c s) pl (actIn s (restOf c s))))
       → P (step c s)
   unfolding step numberOf longestAnswer
   step-cases stays drops answers =
@@ -57,11 +58,11 @@ module _ (c : Call) (s : State) (P : Step → Type 0) where
       by-test P (ltb (length (s .output)) 136) (λ h. stays ShortOutput (omega arith) (omega arith)) λ short.
       by-test P (full (s .tally)) (λ h. stays FullTally (omega arith) (omega arith)) λ not-full.
       let r : Ready c s =
-        record {
-          not-past = ltb-false (length (inputOf c)) (s .cursor) past;
-          image-good = not-false (good (s .image)) bad;
-          room = ltb-false (length (s .output)) 136 short;
-          not-full = not-full
-        }
+      record {
+        not-past = ltb-false (length (inputOf c)) (s .cursor) past;
+        image-good = not-false (good (s .image)) bad;
+        room = ltb-false (length (s .output)) 136 short;
+        not-full = not-full;
+      }
       in
       found-cases (stays AtEnd (omega arith) (omega arith)) (stays Incomplete (omega arith) (omega arith)) (drops r) (answers r)

@@ -81,12 +81,12 @@ DropTakesOneByte =
     → answerOf c s ≡ 3
     → (step c s .length ≡ 0)
     × (step c s .next
-      ≡ record {
-        image = s .image;
-        output = s .output;
-        cursor = s .cursor + 1;
-        tally = record { good = s .tally .good; error = s .tally .error; dropped = s .tally .dropped + 1 }
-      })
+    ≡ record {
+      image = s .image;
+      output = s .output;
+      cursor = s .cursor + 1;
+      tally = record { good = s .tally .good; error = s .tally .error; dropped = s .tally .dropped + 1 };
+    })
 
 -- 0: "one frame at the start of the output; cursor moves over the command"; "Answers have at most 136 bytes."; "Bytes of the output
 -- behind the written frame stay."
@@ -124,7 +124,7 @@ History =
     ≡ record {
       good = s .tally .good + count isGood (run calls s);
       error = s .tally .error + count isError (run calls s);
-      dropped = s .tally .dropped + count isDropped (run calls s)
+      dropped = s .tally .dropped + count isDropped (run calls s);
     }
 
 -- "From cursor 0 of n bytes (n at most 65,536), with a good image, an output of 136 bytes and a fresh tally, at most n calls answer 0
@@ -142,7 +142,7 @@ Bound =
     × (k ≤ length input)
     × (count takes (run (replicate k (call input)) (start image output 0 freshTally)) ≡ k)
     × ((answerOf (call input) (after (replicate k (call input)) (start image output 0 freshTally)) ≡ 1)
-      ⊎ (answerOf (call input) (after (replicate k (call input)) (start image output 0 freshTally)) ≡ 2))
+    ⊎ (answerOf (call input) (after (replicate k (call input)) (start image output 0 freshTally)) ≡ 2))
 
 -- ---- Demand 2: each command has its effect and answer
 
@@ -216,7 +216,7 @@ PairBits =
       access = 2 * bit n 7 + bit n 6;
       epc = 2 * bit n 5 + bit n 4;
       tid = 2 * bit n 3 + bit n 2;
-      user = 2 * bit n 1 + bit n 0
+      user = 2 * bit n 1 + bit n 0;
     }
 
 -- The lock table: "00, 01" free; "10 .. only when secured"; "11 .. neither", "no write".

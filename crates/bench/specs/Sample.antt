@@ -50,7 +50,7 @@ expected k =
     record {
       outcome = k .outcome;
       length = length (k .frame);
-      next = record { image = k .left; output = k .frame ++ replicate (136 - length (k .frame)) 0; cursor = k .cursor; tally = k .tally }
+      next = record { image = k .left; output = k .frame ++ replicate (136 - length (k .frame)) 0; cursor = k .cursor; tally = k .tally };
     }
 
 abbrev pub case : List ℕ → List ℕ → Outcome → List ℕ → List ℕ → ℕ → Tally → Case
@@ -110,7 +110,7 @@ readFrame words check = 0xBB ∷ 0x01 ∷ 0x39 ∷ 0x00 ∷ 0x13 ∷ 0x0E ∷ (p
 abbrev pub cases : List Case
 cases =
     case sample (0xBB ∷ 0x00 ∷ 0x22 ∷ 0x00 ∷ 0x00 ∷ 0x22 ∷ 0x7E ∷ []) Answered
-      (0xBB ∷ 0x02 ∷ 0x22 ∷ 0x00 ∷ 0x11 ∷ 0xC9 ∷ (pcAndEpc ++ (0x3A ∷ 0x76 ∷ 0xEF ∷ 0x7E ∷ []))) sample 7 oneGood
+    (0xBB ∷ 0x02 ∷ 0x22 ∷ 0x00 ∷ 0x11 ∷ 0xC9 ∷ (pcAndEpc ++ (0x3A ∷ 0x76 ∷ 0xEF ∷ 0x7E ∷ []))) sample 7 oneGood
     -- "gives check B0 and data 12 34 56 78"
     ∷ case sample (readUser 0 0x45) Answered (readFrame (0x12 ∷ 0x34 ∷ 0x56 ∷ 0x78 ∷ []) 0xB0) sample 16 oneGood
     -- "The same frame with check 46: one byte dropped."
@@ -120,8 +120,8 @@ cases =
     ∷ case sample (readUser 15 0x54) Answered (tagFrame 0xA3 0x02) sample 16 oneError
     -- "Read with password 00000001: 16, check 75."
     ∷ case sample
-      (0xBB ∷ 0x00 ∷ 0x39 ∷ 0x00 ∷ 0x09 ∷ 0x00 ∷ 0x00 ∷ 0x00 ∷ 0x01 ∷ 0x03 ∷ 0x00 ∷ 0x00 ∷ 0x00 ∷ 0x02 ∷ 0x48 ∷ 0x7E ∷ [])
-      Answered (tagFrame 0x16 0x75) sample 16 oneError
+    (0xBB ∷ 0x00 ∷ 0x39 ∷ 0x00 ∷ 0x09 ∷ 0x00 ∷ 0x00 ∷ 0x00 ∷ 0x01 ∷ 0x03 ∷ 0x00 ∷ 0x00 ∷ 0x00 ∷ 0x02 ∷ 0x48 ∷ 0x7E ∷ [])
+    Answered (tagFrame 0x16 0x75) sample 16 oneError
     -- "Write .. : PL 0010, check A9."
     ∷ case sample writeUser Answered (doneFrame 0x49 0xA9) sample 20 oneGood
     -- "Write of 3C00 to EPC word 1 (L 7, 8 words): B3, check 12. Of 3000: good."

@@ -1,38 +1,38 @@
--- The finding rules, by cases.
-use Prim.Native.Nat.{ℕ, _+_, _≤_}
-use borrow.Author.Tests.{eqb-false, ltb-false, le-leb}
-use lib.Dec.{eqb, leb, ltb}
+-- The finding rules, by cases: what a property of the answer asks.
+use Prim.Native.Nat.{ℕ, _≤_}
+use borrow.Author.Tests.{eqb-true, eqb-false}
+use lib.Dec.{eqb}
 use lib.ListN.{length}
-use mathlib.Core.Bool.{not, _&&_}
 use mathlib.Core.List.{List}
-use mathlib.Core.Path.{_≡_}
+use mathlib.Core.Path.{_≡_, refl}
 use native.Mathlib.Omega.{arith}
-use Rattle.frame.proofs.Picks.{by-test}
-use Rattle.frame.specs.Bytes.{byte}
-use Rattle.frame.specs.Finding.{find, plIn, checkRight, endRight}
-use Rattle.frame.specs.Frames.{frameLength, longestCommand}
+use Rattle.frame.proofs.Accepting.{Accepted, accepted}
+use Rattle.frame.proofs.Rules.{find-end}
+use Rattle.frame.proofs.Tests.{either}
+use Rattle.frame.specs.Finding.{find}
 use Rattle.frame.specs.declared.finding.Found.{Found}
 use Rattle.frame.specs.declared.finding.Found.the-variants.{End, Drop, Wait, Accept}
 
--- what is known of the input where a command is accepted
-pub record Accepted (rest : List ℕ) : Type 0 where
-  pub short : plIn rest ≤ 80
-  pub there : frameLength (plIn rest) ≤ length rest
+-- a byte that is dropped is there
+pub drops-some : (rest : List ℕ) → find rest ≡ Drop → 1 ≤ length rest
+drops-some rest e =
+    either (eqb (length rest) 0)
+    (λ none.
+    let ends : find rest ≡ End = find-end rest (eqb-true _ _ none) in
+    let z : _≡_ {A = ℕ} 0 1 = cc in
+    absurd (omega arith))
+    (λ some. omega (arith, eqb-false (length rest) 0 some))
 
 pub find-cases : (rest : List ℕ) (P : Found → Type 0)
     → P End
     → (1 ≤ length rest → P Drop)
     → P Wait
-    → (Accepted rest → P (Accept (plIn rest)))
+    → ((pl : ℕ) → Accepted rest pl → P (Accept pl))
     → P (find rest)
-unfolding find frameLength longestCommand
-find-cases rest P ends drops waits accepts =
-    by-test P (eqb (length rest) 0) (λ h. ends) λ some.
-    let nonempty : 1 ≤ length rest = omega (arith, eqb-false (length rest) 0 some) in
-    by-test P (not (eqb (byte rest 0) 0xBB)) (λ h. drops nonempty) λ h.
-    by-test P (leb 2 (length rest) && not (eqb (byte rest 1) 0)) (λ h. drops nonempty) λ h.
-    by-test P (leb 5 (length rest) && ltb 80 (plIn rest)) (λ h. drops nonempty) λ short.
-    by-test P (ltb (length rest) (7 + plIn rest)) (λ h. waits) λ there.
-    by-test P (not (checkRight rest && endRight rest)) (λ h. drops nonempty) λ h.
-    let enough : 7 + plIn rest ≤ length rest = ltb-false _ _ there in
-    accepts record { short = ltb-false _ _ (simp (le-leb 5 (length rest) (omega arith)) at short); there = enough }
+find-cases rest P ends drops waits accepts = go (find rest) refl
+  where
+    go : (f : Found) → find rest ≡ f → P f
+    go End e = ends
+    go Drop e = drops (drops-some rest e)
+    go Wait e = waits
+    go (Accept pl) e = accepts pl (accepted rest pl e)

@@ -1,6 +1,10 @@
+pub mod Accepting
+pub mod Closings
 pub mod Finds
 pub mod FrameBytes
 pub mod Numbers
 pub mod Picks
+pub mod Rules
 pub mod Stores
+pub mod Sums
 pub mod Tests

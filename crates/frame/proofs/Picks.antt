@@ -1,6 +1,6 @@
 -- Laws of `pick`, the choice by a test: what it is where the test is known, and the proof by cases.
 use mathlib.Core.Bool.{Bool, true, false}
-use mathlib.Core.Path.{_≡_, refl, subst, sym}
+use mathlib.Core.Path.{_≡_, refl}
 use Rattle.frame.specs.Bytes.{pick}
 
 pub pick-true {ℓ} : {X : Type ℓ} (x y : X) → pick true x y ≡ x

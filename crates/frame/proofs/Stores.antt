@@ -70,6 +70,6 @@ module _ (l : List ℕ) (i : ℕ) (vs : List ℕ) (j : ℕ) where
   unfolding number
   number-sets-in h m =
       let second : byte (sets l i vs) (i + j + 1) ≡ byte vs (j + 1) =
-        ap (λ (n : ℕ). byte (sets l i vs) n) (omega arith) ∙ byte-sets-in l i vs (j + 1) h m
+      ap (λ (n : ℕ). byte (sets l i vs) n) (omega arith) ∙ byte-sets-in l i vs (j + 1) h m
       in
       simp (byte-sets-in l i vs j (omega arith) (omega arith), second)

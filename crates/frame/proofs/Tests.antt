@@ -14,6 +14,10 @@ pub and-right : (a b : Bool) → (a && b) ≡ true → b ≡ true
 and-right true b h = h
 and-right false b h = cc
 
+pub and-second : (a b : Bool) → a ≡ true → (a && b) ≡ false → b ≡ false
+and-second true b h k = k
+and-second false b h k = cc
+
 pub and-both : (a b : Bool) → a ≡ true → b ≡ true → (a && b) ≡ true
 and-both a b h k = simp (h, k)
 

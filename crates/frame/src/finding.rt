@@ -1,4 +1,8 @@
 // Finding a command (document 01, "Finding a command").
+use crate::bytes::number_at;
+use crate::check::check;
+ghost use mathlib.Core.Path.{_≡_};
+ghost use Rattle.frame.specs.Finding.{find};
 
 // What the finding rules make of the input from the cursor on.
 pub enum Found {
@@ -10,4 +14,40 @@ pub enum Found {
     Wait,
     // Rule 7: a command is accepted; it has this many parameter bytes.
     Accept(usize),
+}
+
+// The rules in their order, each answer at the first test that settles it: no byte behind the frame is looked at,
+// so no more than 87, and the check is taken of the frame's own bytes.
+pub fn find(rest: &[u8]) -> Found
+    ensures { λ r. ⌜ r ≡ find (now (rest .entry)) ⌝ }
+{
+    if rest.len() == 0 {
+        return Found::End;
+    }
+    if rest[0] != 0xbb {
+        return Found::Drop;
+    }
+    if rest.len() == 1 {
+        return Found::Wait;
+    }
+    if rest[1] != 0 {
+        return Found::Drop;
+    }
+    if rest.len() < 5 {
+        return Found::Wait;
+    }
+    let pl = number_at(rest, 3);
+    if 80 < pl {
+        return Found::Drop;
+    }
+    if rest.len() < 7 + pl {
+        return Found::Wait;
+    }
+    if rest[5 + pl] != check(&rest[1..5 + pl]) {
+        return Found::Drop;
+    }
+    if rest[6 + pl] != 0x7e {
+        return Found::Drop;
+    }
+    Found::Accept(pl)
 }

@@ -51,7 +51,7 @@ aimed : (v : View) (p : List ℕ) → aimRight p ≡ true → outside v (bankIn 
 unfolding aimRight outside
 aimed v p aim inside =
     let counts : (leb 1 (countIn p) && leb (countIn p) 32) ≡ true =
-      and-right (leb (bankIn p) 3) (leb 1 (countIn p) && leb (countIn p) 32) aim
+    and-right (leb (bankIn p) 3) (leb 1 (countIn p) && leb (countIn p) 32) aim
     in
     record {
       bank-known = leb-true _ _ (and-left (leb (bankIn p) 3) (leb 1 (countIn p) && leb (countIn p) 32) aim);
@@ -74,23 +74,23 @@ module _ (Q : Command → Type 0) (p : List ℕ) (malformed : Q Malformed) where
       by-test Q (eqb code 0x22) (λ h. by-test Q (eqb (length p) 0) (λ n. inventory (eqb-true _ _ h)) (λ n. malformed)) λ h.
       by-test Q (eqb code 0x39)
       (λ h.
-        by-test Q (eqb (length p) 9 && aimRight p)
-        (λ n. reads (eqb-true _ _ h) (eqb-true _ _ (and-left (eqb (length p) 9) (aimRight p) n)) (and-right (eqb (length p) 9) (aimRight p) n))
-        (λ n. malformed))
+      by-test Q (eqb (length p) 9 && aimRight p)
+      (λ n. reads (eqb-true _ _ h) (eqb-true _ _ (and-left (eqb (length p) 9) (aimRight p) n)) (and-right (eqb (length p) 9) (aimRight p) n))
+      (λ n. malformed))
       λ h.
       by-test Q (eqb code 0x49)
       (λ h.
-        by-test Q (eqb (length p) (9 + 2 * countIn p) && aimRight p)
-        (λ n.
-          writes (eqb-true _ _ h) (eqb-true _ _ (and-left (eqb (length p) (9 + 2 * countIn p)) (aimRight p) n))
-          (and-right (eqb (length p) (9 + 2 * countIn p)) (aimRight p) n))
-        (λ n. malformed))
+      by-test Q (eqb (length p) (9 + 2 * countIn p) && aimRight p)
+      (λ n.
+      writes (eqb-true _ _ h) (eqb-true _ _ (and-left (eqb (length p) (9 + 2 * countIn p)) (aimRight p) n))
+      (and-right (eqb (length p) (9 + 2 * countIn p)) (aimRight p) n))
+      (λ n. malformed))
       λ h.
       by-test Q (eqb code 0x82)
       (λ h.
-        by-test Q (eqb (length p) 7 && ltb (ldIn p) 0x100000)
-        (λ n. locks (eqb-true _ _ h) (eqb-true _ _ (and-left (eqb (length p) 7) (ltb (ldIn p) 0x100000) n)))
-        (λ n. malformed))
+      by-test Q (eqb (length p) 7 && ltb (ldIn p) 0x100000)
+      (λ n. locks (eqb-true _ _ h) (eqb-true _ _ (and-left (eqb (length p) 7) (ltb (ldIn p) 0x100000) n)))
+      (λ n. malformed))
       λ h.
       by-test Q (eqb code 0x65) (λ h. by-test Q (eqb (length p) 4) (λ n. kills (eqb-true _ _ h) (eqb-true _ _ n)) (λ n. malformed)) λ h.
       malformed
@@ -113,7 +113,7 @@ module _ (P : Act → Type 0) (plain : (e : ℕ) → P (PlainError e)) (tagged :
 
   write-cases : (v : View) (s : Standing) (bank pointer count : ℕ) (words : List ℕ)
       → (outside v bank pointer count ≡ false → mayWrite v s bank pointer count ≡ true → lengthBroken v bank pointer count words ≡ false
-          → P (Store (wordAt (bankOf v bank) pointer)))
+      → P (Store (wordAt (bankOf v bank) pointer)))
       → P (writeVerdict v s bank pointer count words)
   unfolding writeVerdict
   write-cases v s bank pointer count words store =
@@ -160,10 +160,10 @@ module _ (P : Act → Type 0) (plain : (e : ℕ) → P (PlainError e)) (tagged :
       parse-cases (λ m. P (verdict image p m)) p (plain 0x17) code
       (λ h. inventory-cases v (notify h))
       (λ h fields aim.
-        read-cases v s (bankIn p) (pointerIn p) (countIn p) λ inside may.
-        give h record { fields = fields; aim = aimed v p aim inside; may = may })
+      read-cases v s (bankIn p) (pointerIn p) (countIn p) λ inside may.
+      give h record { fields = fields; aim = aimed v p aim inside; may = may })
       (λ h fields aim.
-        write-cases v s (bankIn p) (pointerIn p) (countIn p) (dataIn p) λ inside may kept.
-        store h record { fields = fields; aim = aimed v p aim inside; may = may; kept = kept })
+      write-cases v s (bankIn p) (pointerIn p) (countIn p) (dataIn p) λ inside may kept.
+      store h record { fields = fields; aim = aimed v p aim inside; may = may; kept = kept })
       (λ h fields. lock-cases v s (ldIn p / 1024) (ldIn p % 1024) (locks h))
       (λ h fields. kill-cases v (killStanding image (passwordIn p)) (killed h))

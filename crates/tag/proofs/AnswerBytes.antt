@@ -36,22 +36,24 @@ module _ (image : List ℕ) (g : Good (view image)) where
   unfolding answer
   notify-most =
       let crc : List ℕ = twoBytes (tagCrc (pcAndEpc image)) in
-      omega
-      (arith,
-      length-frame 0x02 0x22 (rssi image ∷ (pcAndEpc image ++ crc)),
-      length-append (pcAndEpc image) crc,
-      length-two-bytes (tagCrc (pcAndEpc image)),
-      pc-and-epc-most)
+      omega (
+        arith,
+        length-frame 0x02 0x22 (rssi image ∷ (pcAndEpc image ++ crc)),
+        length-append (pcAndEpc image) crc,
+        length-two-bytes (tagCrc (pcAndEpc image)),
+        pc-and-epc-most,
+      )
 
   give-most : (at n : ℕ) → n ≤ 64 → length (answer image (Give at n)) ≤ 136
   unfolding answer
   give-most at n h =
-      omega
-      (arith,
-      length-frame 0x01 0x39 (tail image ++ part image at n),
-      length-append (tail image) (part image at n),
-      length-part image at n,
-      tail-most)
+      omega (
+        arith,
+        length-frame 0x01 0x39 (tail image ++ part image at n),
+        length-append (tail image) (part image at n),
+        length-part image at n,
+        tail-most,
+      )
 
 -- "Answers have at most 136 bytes."
 pub answer-most : (image p : List ℕ) (code : ℕ) → good image ≡ true → length (answer image (actOf image code p)) ≤ 136

@@ -23,7 +23,7 @@ changedView v pc locks state =
       user = v .user;
       locks = locks;
       state = state;
-      pc = pc
+      pc = pc;
     }
 
 -- the banks' places and the sizes stay where the first 20 bytes do
@@ -32,15 +32,16 @@ module _ (image : List ℕ) (at : ℕ) (vs : List ℕ) (from : 20 ≤ at) where
       ≡ changedView (view image) (number (sets image at vs) (number image 10 + 2)) (number (sets image at vs) 20) (byte (sets image at vs) 22)
   unfolding view bankAt
   view-sets =
-      simp
-      (length-sets image at vs,
-      number-sets-before image at vs 0 (omega arith),
-      number-sets-before image at vs 2 (omega arith),
-      number-sets-before image at vs 4 (omega arith),
-      number-sets-before image at vs 6 (omega arith),
-      number-sets-before image at vs 8 (omega arith),
-      number-sets-before image at vs 10 (omega arith),
-      number-sets-before image at vs 12 (omega arith),
-      number-sets-before image at vs 14 (omega arith),
-      number-sets-before image at vs 16 (omega arith),
-      number-sets-before image at vs 18 (omega arith))
+      simp (
+        length-sets image at vs,
+        number-sets-before image at vs 0 (omega arith),
+        number-sets-before image at vs 2 (omega arith),
+        number-sets-before image at vs 4 (omega arith),
+        number-sets-before image at vs 6 (omega arith),
+        number-sets-before image at vs 8 (omega arith),
+        number-sets-before image at vs 10 (omega arith),
+        number-sets-before image at vs 12 (omega arith),
+        number-sets-before image at vs 14 (omega arith),
+        number-sets-before image at vs 16 (omega arith),
+        number-sets-before image at vs 18 (omega arith),
+      )

@@ -25,10 +25,11 @@ new-bit-small mask action old a o = by-test (λ n. n < 2) (eqb mask 1) (λ h. a)
 pub new-pair-small : (mask action old : ℕ) → action < 4 → old < 4 → newPair mask action old < 4
 unfolding newPair
 new-pair-small mask action old a o =
-    omega
-    (arith,
-    new-bit-small (mask / 2) (action / 2) (old / 2) (omega arith) (omega arith),
-    new-bit-small (mask % 2) (action % 2) (old % 2) (omega arith) (omega arith))
+    omega (
+      arith,
+      new-bit-small (mask / 2) (action / 2) (old / 2) (omega arith) (omega arith),
+      new-bit-small (mask % 2) (action % 2) (old % 2) (omega arith) (omega arith),
+    )
 
 pub new-pairs-small : (mask action old : Pairs) → Small action → Small old → Small (newPairs mask action old)
 unfolding newPairs
@@ -38,7 +39,7 @@ new-pairs-small mask action old a o =
       access = new-pair-small _ _ _ (a .access) (o .access);
       epc = new-pair-small _ _ _ (a .epc) (o .epc);
       tid = new-pair-small _ _ _ (a .tid) (o .tid);
-      user = new-pair-small _ _ _ (a .user) (o .user)
+      user = new-pair-small _ _ _ (a .user) (o .user);
     }
 
 pub bits-small : (p : Pairs) → Small p → bitsOf p < 1024

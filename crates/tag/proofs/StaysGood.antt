@@ -46,7 +46,7 @@ good-changed v pc locks state g l s e =
       tid-place = g .tid-place;
       user-place = g .user-place;
       last-end = g .last-end;
-      epc-fits = e
+      epc-fits = e;
     }
 
 -- ---- a Write: the PC after it
@@ -85,7 +85,7 @@ module _ (image : List ℕ) (g : Good (view image)) (pointer count : ℕ) (words
   over-it low far fits kept =
       let place : view image .epc .offset + 2 ≡ wordAt (view image .epc) pointer + 2 * (1 - pointer) = omega arith in
       let new : number (sets image (wordAt (view image .epc) pointer) words) (wordAt (view image .epc) pointer + 2 * (1 - pointer)) ≡ number words (2 * (1 - pointer)) =
-        number-sets-in image (wordAt (view image .epc) pointer) words (2 * (1 - pointer)) (omega arith) (omega arith)
+      number-sets-in image (wordAt (view image .epc) pointer) words (2 * (1 - pointer)) (omega arith) (omega arith)
       in
       subst (λ (n : ℕ). epcLength n + 2 ≤ view image .epc .words)
       (sym (ap (λ (i : ℕ). number (sets image (wordAt (view image .epc) pointer) words) i) place ∙ new))
@@ -97,12 +97,12 @@ module _ (image : List ℕ) (g : Good (view image)) (pointer count : ℕ) (words
       bank-cases (view image) FitsAfter
       (λ fits kept. before-it (view image .reserved) (omega arith))
       (λ fits kept.
-        either (leb pointer 1)
-        (λ low.
-          either (ltb 1 (pointer + count))
-          (λ far. over-it (leb-true _ _ low) (ltb-true _ _ far) fits kept)
-          (λ near. before-it (view image .epc) (omega (arith, ltb-false 1 (pointer + count) near))))
-        (λ high. behind-it (view image .epc) (omega (arith, leb-false pointer 1 high))))
+      either (leb pointer 1)
+      (λ low.
+      either (ltb 1 (pointer + count))
+      (λ far. over-it (leb-true _ _ low) (ltb-true _ _ far) fits kept)
+      (λ near. before-it (view image .epc) (omega (arith, ltb-false 1 (pointer + count) near))))
+      (λ high. behind-it (view image .epc) (omega (arith, leb-false pointer 1 high))))
       (λ fits kept. behind-it (view image .tid) (omega arith))
       (λ fits kept. behind-it (view image .user) (omega arith))
 
@@ -124,7 +124,7 @@ unfolding view bankAt
 good-locks image bits g small =
     let two : length (twoBytes bits) ≡ 2 = length-two-bytes bits in
     let new : number (sets image 20 (twoBytes bits)) 20 ≡ bits =
-      number-sets-in image 20 (twoBytes bits) 0 (omega arith) (omega arith) ∙ number-two-bytes bits (omega arith)
+    number-sets-in image 20 (twoBytes bits) 0 (omega arith) (omega arith) ∙ number-two-bytes bits (omega arith)
     in
     subst Good (sym (view-sets image 20 (twoBytes bits) (omega arith)))
     (good-changed (view image) _ _ _ g (rw new small)
@@ -151,5 +151,5 @@ stays-good image p code h =
     (λ n reads. h)
     (λ n writes. good-holds _ (good-store image p g writes))
     (λ n secured.
-      good-holds _ (good-locks image (newBits image p) g (bits-small _ (new-pairs-small _ _ _ (pairs-small (ldIn p % 1024)) (pairs-small (view image .locks))))))
+    good-holds _ (good-locks image (newBits image p) g (bits-small _ (new-pairs-small _ _ _ (pairs-small (ldIn p % 1024)) (pairs-small (view image .locks))))))
     (λ n equal. good-holds _ (good-killed image g))

@@ -1,0 +1,60 @@
+-- Laws of the CRC's steps: one bit in each direction, one bit more of a byte, one byte more of the bytes.
+use Prim.Native.Nat.{ℕ, zero, suc, _+_, _-_, _*_, _/_, _%_, _≤_, _<_}
+use borrow.Author.Tests.{le-leb, lt-leb, eq-eqb, ne-eqb}
+use lib.Bits.{bitXor}
+use lib.ListN.{length, drop, getD, drop-of-length-le}
+use lib.Seq.{drop-cons}
+use mathlib.Core.List.{List}
+use mathlib.Core.Path.{_≡_, refl}
+use native.Mathlib.Numerals.{add-one}
+use native.Mathlib.Omega.{arith}
+use Rattle.crc.specs.Crc.{leaving, shifted, added, bitStep, bitSteps, byteStep, crc}
+use Rattle.crc.specs.declared.Direction.{Direction}
+use Rattle.crc.specs.declared.Direction.the-variants.{HighFirst, LowFirst}
+
+module _ (polynomial register : ℕ) where
+  pub high-one : 0x8000 ≤ register → bitXor (register % 0x8000 * 2) polynomial ≡ bitStep HighFirst polynomial register
+  unfolding bitStep leaving shifted added
+  high-one one =
+      let up : register % 0x8000 * 2 ≡ register * 2 % 0x10000 = omega arith in
+      simp (le-leb 0x8000 register one, up)
+
+  pub high-zero : register < 0x8000 → register * 2 ≡ bitStep HighFirst polynomial register
+  unfolding bitStep leaving shifted added
+  high-zero none =
+      let up : register * 2 % 0x10000 ≡ register * 2 = omega arith in
+      simp (lt-leb 0x8000 register none, up)
+
+  pub low-one : register % 2 ≡ 1 → bitXor (register / 2) polynomial ≡ bitStep LowFirst polynomial register
+  unfolding bitStep leaving shifted added
+  low-one one = simp (eq-eqb (register % 2) 1 one)
+
+  pub low-zero : (register % 2 ≡ 1 → ⊥) → register / 2 ≡ bitStep LowFirst polynomial register
+  unfolding bitStep leaving shifted added
+  low-zero none = simp (ne-eqb (register % 2) 1 none)
+
+module _ (direction : Direction) (polynomial : ℕ) where
+  -- of the bits left, one is worked now
+  pub bits-next : (n register : ℕ) → 0 < n
+      → bitSteps direction polynomial (n - 1) (bitStep direction polynomial register) ≡ bitSteps direction polynomial n register
+  unfolding bitSteps
+  bits-next zero register some = absurd (omega arith)
+  bits-next (suc n) register some =
+      let less : suc n - 1 ≡ n = omega arith in
+      rw less
+
+  pub bits-none : (n register : ℕ) → n ≤ 0 → bitSteps direction polynomial n register ≡ register
+  unfolding bitSteps
+  bits-none zero register none = refl
+  bits-none (suc n) register none = absurd (omega arith)
+
+  module _ (bytes : List ℕ) (i register : ℕ) where
+    -- of the bytes left, one is worked now
+    pub bytes-next : i < length bytes
+        → crc direction polynomial (byteStep direction polynomial register (getD bytes i 0)) (drop (i + 1) bytes) ≡ crc direction polynomial register (drop i bytes)
+    unfolding crc
+    bytes-next inside = rw (add-one, drop-cons bytes i 0)
+
+    pub bytes-none : length bytes ≤ i → crc direction polynomial register (drop i bytes) ≡ register
+    unfolding crc
+    bytes-none behind = rw (drop-of-length-le bytes behind)
