@@ -1,7 +1,7 @@
 pub mod Acts
 pub mod AnswerBytes
-pub mod Banks
 pub mod Changes
 pub mod GoodImages
 pub mod LockPairs
+pub mod Places
 pub mod StaysGood

@@ -13,7 +13,7 @@ use Rattle.frame.proofs.Stores.{byte-sets-before, byte-sets-behind, byte-sets-i
 use Rattle.frame.proofs.Tests.{either}
 use Rattle.frame.specs.Bytes.{byte, number, twoBytes}
 use Rattle.tag.proofs.Acts.{Aimed, Writes, placeOf, newBits, act-cases}
-use Rattle.tag.proofs.Banks.{Inside, inside, bank-cases, data-length}
+use Rattle.tag.proofs.Places.{Inside, inside, bank-cases, data-length}
 use Rattle.tag.proofs.Changes.{changedView, view-sets}
 use Rattle.tag.proofs.GoodImages.{Good, good-facts, good-holds}
 use Rattle.tag.proofs.LockPairs.{pairs-small, new-pairs-small, bits-small}
