@@ -1,0 +1,4 @@
+pub mod Banks
+pub mod Data
+pub mod Regions
+pub mod Tests
