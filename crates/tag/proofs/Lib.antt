@@ -1,7 +1,11 @@
 pub mod Acts
 pub mod AnswerBytes
+pub mod Banks
 pub mod Changes
+pub mod Data
 pub mod GoodImages
 pub mod LockPairs
 pub mod Places
+pub mod Regions
 pub mod StaysGood
+pub mod Tests

@@ -1,4 +1,5 @@
 pub mod Answers
+pub mod Bounds
 pub mod Commands
 pub mod Image
 pub mod Locks

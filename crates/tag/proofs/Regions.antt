@@ -1,0 +1,53 @@
+-- Laws of the words that a command reaches, tested without a sum that could wrap: which it touches, and whether they are in their bank.
+use Prim.Native.Nat.{ℕ, _+_, _-_, _<_, _≤_}
+use mathlib.Core.Bool.{true, false}
+use mathlib.Core.Path.{_≡_, sym}
+use borrow.Author.Tests.{lt-ltb, le-ltb, ltb-false}
+use lib.Dec.{ltb}
+use native.Mathlib.Omega.{arith}
+use Rattle.tag.proofs.Banks.{small-bank}
+use Rattle.tag.proofs.Tests.{and-false}
+use Rattle.tag.specs.Bounds.{Small}
+use Rattle.tag.specs.Commands.{outside}
+use Rattle.tag.specs.Image.{bankOf}
+use Rattle.tag.specs.Locks.{touches}
+use Rattle.tag.specs.declared.image.View.{View}
+
+module _ (pointer count first : ℕ) where
+  pub starts-behind : first + 2 ≤ pointer → false ≡ touches pointer count first
+  unfolding touches
+  starts-behind h = simp (le-ltb pointer (first + 2) h)
+
+  pub starts-inside : pointer < first + 2 → first < pointer → true ≡ touches pointer count first
+  unfolding touches
+  starts-inside h k = simp (lt-ltb pointer (first + 2) h, lt-ltb first (pointer + count) (omega arith))
+
+  pub stops-before : pointer ≤ first → count ≤ first - pointer → false ≡ touches pointer count first
+  unfolding touches
+  stops-before h k = simp (le-ltb first (pointer + count) (omega arith), and-false)
+
+  pub reaches-in : pointer ≤ first → first - pointer < count → true ≡ touches pointer count first
+  unfolding touches
+  reaches-in h k = simp (lt-ltb pointer (first + 2) (omega arith), lt-ltb first (pointer + count) (omega arith))
+
+module _ (words pointer count : ℕ) where
+  pub starts-outside : words < pointer → true ≡ ltb words (pointer + count)
+  starts-outside h = sym (lt-ltb words (pointer + count) (omega arith))
+
+  pub ends-outside : pointer ≤ words → words - pointer < count → true ≡ ltb words (pointer + count)
+  ends-outside h k = sym (lt-ltb words (pointer + count) (omega arith))
+
+  pub ends-inside : pointer ≤ words → count ≤ words - pointer → false ≡ ltb words (pointer + count)
+  ends-inside h k = sym (le-ltb words (pointer + count) (omega arith))
+
+-- what is in its bank has a small place in the image
+pub record Near (v : View) (bank pointer count : ℕ) : Type 0 where
+  pub span-near : pointer + count < 65536
+  pub offset-near : bankOf v bank .offset < 65536
+
+pub inside-near : (v : View) (bank pointer count : ℕ) → Small v → outside v bank pointer count ≡ false → Near v bank pointer count
+unfolding outside
+inside-near v bank pointer count s e =
+    let small = small-bank v bank s in
+    let within = ltb-false (bankOf v bank .words) (pointer + count) e in
+    record { span-near = omega arith; offset-near = small .offset-small }

@@ -1,0 +1,42 @@
+-- `is_good` meets its contract: it tests the view of the image, part by part.
+use Rattle.tag.proofs.Tests.{and-false, not-holds, not-fails}
+use Rattle.tag.specs.Image.{good}
+use borrow.Author.Needs.{needs}
+use Rattle.tag.proofs.good.is_good.Statement.{statement}
+use Rattle.tag.proofs.good.is_good.Tie as tie
+
+view-of-requires : tie.Need-view-of-requires
+view-of-requires c κs = search needs
+
+is-good-header-requires : tie.Need-is-good-header-requires
+is-good-header-requires c κs = search needs
+
+returns : tie.Need-returns
+unfolding good
+returns c = simp (← (c .before .before .view-of .ensures .0), not-holds (c .if1 .taken) (c .before .is-good-header .ensures))
+
+is-good-banks-requires : tie.Need-is-good-banks-requires
+is-good-banks-requires c κs = search needs
+
+returns-2 : tie.Need-returns-2
+unfolding good
+returns-2 c = simp (← (c .before .before .before .before .view-of .ensures .0), not-holds (c .if2 .taken) (c .before .is-good-banks .ensures), and-false)
+
+is-good-tag-requires : tie.Need-is-good-tag-requires
+is-good-tag-requires c κs = search needs
+
+returns-3 : tie.Need-returns-3
+unfolding good
+returns-3 c = simp (← (c .before .before .before .before .before .view-of .ensures .0), not-fails (c .before .before .before .if1 .left) (c .before .before .before .before .is-good-header .ensures), not-fails (c .before .if2 .left) (c .before .before .is-good-banks .ensures), c .is-good-tag .ensures)
+
+pub is-good-spec : {M : Type 1} → statement M
+is-good-spec =
+    tie.close
+    (tie.spec
+    view-of-requires
+    is-good-header-requires
+    returns
+    is-good-banks-requires
+    returns-2
+    is-good-tag-requires
+    returns-3)

@@ -1,0 +1,25 @@
+-- `standing_of` meets its contract: the tests that led to a return say which standing is picked.
+use borrow.Author.Tests.{eq-eqb, ne-eqb}
+use Rattle.frame.proofs.Picks.{pick-true, pick-false}
+use Rattle.tag.specs.Locks.{standingOf}
+use Rattle.tag.proofs.locks.standing_of.Statement.{statement}
+use Rattle.tag.proofs.locks.standing_of.Tie as tie
+
+returns : tie.Need-returns
+unfolding standingOf
+returns c = simp (eq-eqb _ _ (c .before .if1 .taken), eq-eqb _ _ (c .if2 .taken), pick-true)
+
+returns-2 : tie.Need-returns-2
+unfolding standingOf
+returns-2 c = simp (eq-eqb _ _ (c .before .if1 .taken), ne-eqb _ _ (c .if2 .left), pick-true, pick-false)
+
+returns-3 : tie.Need-returns-3
+unfolding standingOf
+returns-3 c = simp (ne-eqb _ _ (c .before .if1 .left), eq-eqb _ _ (c .if3 .taken), pick-true, pick-false)
+
+returns-4 : tie.Need-returns-4
+unfolding standingOf
+returns-4 c = simp (ne-eqb _ _ (c .before .if1 .left), ne-eqb _ _ (c .if3 .left), pick-false)
+
+pub standing-of-spec : {M : Type 1} → statement M
+standing-of-spec = tie.close (tie.spec returns returns-2 returns-3 returns-4)

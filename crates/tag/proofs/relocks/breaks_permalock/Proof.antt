@@ -1,0 +1,56 @@
+-- `breaks_permalock` meets its contract: one pair that breaks its permalock is enough.
+use Rattle.tag.proofs.Tests.{holds, fails, or-true}
+use Rattle.tag.specs.Locks.{breaksPermalock}
+use borrow.Author.Needs.{needs}
+use Rattle.tag.proofs.relocks.breaks_permalock.Statement.{statement}
+use Rattle.tag.proofs.relocks.breaks_permalock.Tie as tie
+
+breaks-pair-requires : tie.Need-breaks-pair-requires
+breaks-pair-requires c κs = search needs
+
+returns : tie.Need-returns
+unfolding breaksPermalock
+returns c = simp (holds (c .if1 .taken) (c .before .breaks-pair .ensures))
+
+breaks-pair-requires-2 : tie.Need-breaks-pair-requires-2
+breaks-pair-requires-2 c κs = search needs
+
+returns-2 : tie.Need-returns-2
+unfolding breaksPermalock
+returns-2 c = simp (holds (c .if2 .taken) (c .before .breaks-pair2 .ensures), or-true)
+
+breaks-pair-requires-3 : tie.Need-breaks-pair-requires-3
+breaks-pair-requires-3 c κs = search needs
+
+returns-3 : tie.Need-returns-3
+unfolding breaksPermalock
+returns-3 c = simp (holds (c .if3 .taken) (c .before .breaks-pair3 .ensures), or-true)
+
+breaks-pair-requires-4 : tie.Need-breaks-pair-requires-4
+breaks-pair-requires-4 c κs = search needs
+
+returns-4 : tie.Need-returns-4
+unfolding breaksPermalock
+returns-4 c = simp (holds (c .if4 .taken) (c .before .breaks-pair4 .ensures), or-true)
+
+breaks-pair-requires-5 : tie.Need-breaks-pair-requires-5
+breaks-pair-requires-5 c κs = search needs
+
+returns-5 : tie.Need-returns-5
+unfolding breaksPermalock
+returns-5 c = simp (fails (c .before .before .before .before .before .before .before .if1 .left) (c .before .before .before .before .before .before .before .before .breaks-pair .ensures), fails (c .before .before .before .before .before .if2 .left) (c .before .before .before .before .before .before .breaks-pair2 .ensures), fails (c .before .before .before .if3 .left) (c .before .before .before .before .breaks-pair3 .ensures), fails (c .before .if4 .left) (c .before .before .breaks-pair4 .ensures), c .breaks-pair5 .ensures)
+
+pub breaks-permalock-spec : {M : Type 1} → statement M
+breaks-permalock-spec =
+    tie.close
+    (tie.spec
+    breaks-pair-requires
+    returns
+    breaks-pair-requires-2
+    returns-2
+    breaks-pair-requires-3
+    returns-3
+    breaks-pair-requires-4
+    returns-4
+    breaks-pair-requires-5
+    returns-5)
