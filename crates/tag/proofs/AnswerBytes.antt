@@ -12,7 +12,7 @@ use Rattle.frame.proofs.FrameBytes.{length-frame, code-frame, length-part}
 use Rattle.frame.proofs.Numbers.{length-two-bytes}
 use Rattle.frame.specs.Bytes.{byte, part, twoBytes}
 use Rattle.frame.specs.Frames.{frameOf, written}
-use Rattle.tag.proofs.Acts.{Reads, placeOf, act-cases}
+use Rattle.tag.proofs.Cases.{Reads, placeOf, act-cases}
 use Rattle.tag.proofs.GoodImages.{Good, good-facts}
 use Rattle.tag.specs.Answers.{pcAndEpc, tail, answer, isError}
 use Rattle.tag.specs.Commands.{countIn, actOf}

@@ -1,4 +1,4 @@
-pub mod Acts
+pub mod Cases
 pub mod AnswerBytes
 pub mod Banks
 pub mod Changes

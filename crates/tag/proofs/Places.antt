@@ -5,7 +5,7 @@ use mathlib.Core.List.{List}
 use mathlib.Core.Path.{_≡_, ap, _∙_}
 use native.Mathlib.Omega.{arith}
 use Rattle.frame.specs.Bytes.{pick}
-use Rattle.tag.proofs.Acts.{Aimed, placeOf, Writes}
+use Rattle.tag.proofs.Cases.{Aimed, placeOf, Writes}
 use Rattle.tag.proofs.GoodImages.{Good}
 use Rattle.tag.specs.Commands.{bankIn, pointerIn, countIn, dataIn}
 use Rattle.tag.specs.Image.{bankOf, wordAt, view}

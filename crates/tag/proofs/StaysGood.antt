@@ -12,7 +12,7 @@ use Rattle.frame.proofs.Numbers.{byte-one, number-two-bytes, length-two-bytes}
 use Rattle.frame.proofs.Stores.{byte-sets-before, byte-sets-behind, byte-sets-in, number-sets-before, number-sets-behind, number-sets-in}
 use Rattle.frame.proofs.Tests.{either}
 use Rattle.frame.specs.Bytes.{byte, number, twoBytes}
-use Rattle.tag.proofs.Acts.{Aimed, Writes, placeOf, newBits, act-cases}
+use Rattle.tag.proofs.Cases.{Aimed, Writes, placeOf, newBits, act-cases}
 use Rattle.tag.proofs.Places.{Inside, inside, bank-cases, data-length}
 use Rattle.tag.proofs.Changes.{changedView, view-sets}
 use Rattle.tag.proofs.GoodImages.{Good, good-facts, good-holds}
