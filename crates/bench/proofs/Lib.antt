@@ -1,3 +1,12 @@
-pub mod Starred
+pub mod Answering
+pub mod Bounding
+pub mod Claimed
+pub mod Computed
+pub mod Effects
+pub mod Histories
+pub mod Quiet
+pub mod Secret
 pub mod Steps
+pub mod Tables
 pub mod Tallies
+pub mod Twins

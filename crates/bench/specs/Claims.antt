@@ -90,16 +90,16 @@ DropTakesOneByte =
 
 -- 0: "one frame at the start of the output; cursor moves over the command"; "Answers have at most 136 bytes."; "Bytes of the output
 -- behind the written frame stay."
-pub record OneFrame (c : Call) (s : State) : Type 0 where
-  pub frame-first : take (step c s .length) (step c s .next .output) ≡ answer (s .image) (actIn s (restOf c s))
-  pub at-most-136 : step c s .length ≤ 136
-  pub behind-stays : drop (step c s .length) (step c s .next .output) ≡ drop (step c s .length) (s .output)
-  pub room-stays : length (step c s .next .output) ≡ length (s .output)
-  pub over-the-command : step c s .next .cursor ≡ s .cursor + (7 + number (restOf c s) 3)
-  pub not-past-the-end : step c s .next .cursor ≤ length (inputOf c)
+pub record OneFrame (c : Call) (s : State) (x : Step) : Type 0 where
+  pub frame-first : take (x .length) (x .next .output) ≡ answer (s .image) (actIn s (restOf c s))
+  pub at-most-136 : x .length ≤ 136
+  pub behind-stays : drop (x .length) (x .next .output) ≡ drop (x .length) (s .output)
+  pub room-stays : length (x .next .output) ≡ length (s .output)
+  pub over-the-command : x .next .cursor ≡ s .cursor + (7 + number (restOf c s) 3)
+  pub not-past-the-end : x .next .cursor ≤ length (inputOf c)
 
 abbrev pub AnswerIsOneFrame : Type 0
-AnswerIsOneFrame = (c : Call) (s : State) → answerOf c s ≡ 0 → OneFrame c s
+AnswerIsOneFrame = (c : Call) (s : State) → answerOf c s ≡ 0 → OneFrame c s (step c s)
 
 -- how many steps of a run pass a test; "An error answer is one with code FF."
 unfoldable pub count : (Step → Bool) → List Step → ℕ
@@ -161,9 +161,9 @@ pub record Overwritten (at : ℕ) (bytes old new : List ℕ) : Type 0 where
   pub behind-stays : drop (at + length bytes) new ≡ drop (at + length bytes) old
 
 -- "a write lands whole or not at all": with an error answer nothing is stored, with a good one all of it
-pub record Effect (c : Call) (s : State) (at : ℕ) (bytes : List ℕ) : Type 0 where
-  pub error-stores-nothing : isError (step c s) ≡ true → step c s .next .image ≡ s .image
-  pub good-stores-all : isGood (step c s) ≡ true → Overwritten at bytes (s .image) (step c s .next .image)
+pub record Effect (s : State) (x : Step) (at : ℕ) (bytes : List ℕ) : Type 0 where
+  pub error-stores-nothing : isError x ≡ true → x .next .image ≡ s .image
+  pub good-stores-all : isGood x ≡ true → Overwritten at bytes (s .image) (x .next .image)
 
 -- "only on the named words": they are in the named bank, and each has its two data bytes
 pub record NamedWords (image p : List ℕ) : Type 0 where
@@ -175,7 +175,7 @@ abbrev pub WriteEffect : Type 0
 WriteEffect =
     (c : Call) (s : State)
     → codeOf c s ≡ 0x49
-    → Effect c s (wordAt (bankOf (view (s .image)) (bankIn (parametersOf c s))) (pointerIn (parametersOf c s))) (dataIn (parametersOf c s))
+    → Effect s (step c s) (wordAt (bankOf (view (s .image)) (bankIn (parametersOf c s))) (pointerIn (parametersOf c s))) (dataIn (parametersOf c s))
     × (isGood (step c s) ≡ true → NamedWords (s .image) (parametersOf c s))
 
 -- "all pairs are stored": bytes 20 and 21; LD bits 19 to 10 are the mask, 9 to 0 the action
@@ -183,11 +183,11 @@ abbrev pub pairsAfter : State → List ℕ → Pairs
 pairsAfter s p = newPairs (pairs (ldIn p / 1024)) (pairs (ldIn p % 1024)) (pairs (view (s .image) .locks))
 
 abbrev pub LockEffect : Type 0
-LockEffect = (c : Call) (s : State) → codeOf c s ≡ 0x82 → Effect c s 20 (twoBytes (bitsOf (pairsAfter s (parametersOf c s))))
+LockEffect = (c : Call) (s : State) → codeOf c s ≡ 0x82 → Effect s (step c s) 20 (twoBytes (bitsOf (pairsAfter s (parametersOf c s))))
 
 -- "state becomes 1": byte 22
 abbrev pub KillEffect : Type 0
-KillEffect = (c : Call) (s : State) → codeOf c s ≡ 0x65 → Effect c s 22 (1 ∷ [])
+KillEffect = (c : Call) (s : State) → codeOf c s ≡ 0x65 → Effect s (step c s) 22 (1 ∷ [])
 
 abbrev pub NoOtherEffect : Type 0
 NoOtherEffect = (c : Call) (s : State) → codeOf c s ≢ 0x49 → codeOf c s ≢ 0x82 → codeOf c s ≢ 0x65 → step c s .next .image ≡ s .image
@@ -308,3 +308,6 @@ pub record PremisesMet (a b output : List ℕ) (calls : List Call) : Type 0 wher
   pub kill-differs : killPassword a ≢ killPassword b
   pub access-differs : accessPassword a ≢ accessPassword b
   pub four-commands : map (λ m. m .code) (accepted calls (start a output 0 freshTally)) ≡ 0x39 ∷ 0x49 ∷ 0x82 ∷ 0x65 ∷ []
+
+abbrev pub Demand3CanBeMet : Type 0
+Demand3CanBeMet = (a : List ℕ) × (b : List ℕ) × (output : List ℕ) × (calls : List Call) × PremisesMet a b output calls

@@ -1,5 +1,5 @@
 -- Laws of `pick`, the choice by a test: what it is where the test is known, and the proof by cases.
-use mathlib.Core.Bool.{Bool, true, false}
+use mathlib.Core.Bool.{Bool, true, false, not, _&&_, _||_}
 use mathlib.Core.Path.{_≡_, refl}
 use Rattle.frame.specs.Bytes.{pick}
 
@@ -16,3 +16,14 @@ pub by-test {ℓ κ} : {X : Type ℓ} (P : X → Type κ) (test : Bool) {x y : X
 unfolding pick
 by-test P true yes-case no-case = yes-case refl
 by-test P false yes-case no-case = no-case refl
+
+-- a choice after a test "or", and after a test "not both", is two choices
+pub pick-or {ℓ} : {X : Type ℓ} (a b : Bool) (x y : X) → pick (a || b) x y ≡ pick a x (pick b x y)
+unfolding pick
+pick-or true b x y = refl
+pick-or false b x y = refl
+
+pub pick-not-both {ℓ} : {X : Type ℓ} (a b : Bool) (x y : X) → pick (not (a && b)) x y ≡ pick (not a) x (pick (not b) x y)
+unfolding pick
+pick-not-both true b x y = refl
+pick-not-both false b x y = refl

@@ -1,7 +1,7 @@
 -- Laws of tests joined by "and", and of lists of tests.
 use Prim.Native.Nat.{ℕ, zero, suc}
 use lib.ListN.{getD}
-use mathlib.Core.Bool.{Bool, true, false, _&&_}
+use mathlib.Core.Bool.{Bool, true, false, _&&_, _||_}
 use mathlib.Core.List.{List, [], _∷_}
 use mathlib.Core.Path.{_≡_, refl}
 use Rattle.frame.specs.Bytes.{all}
@@ -20,6 +20,10 @@ and-second false b h k = cc
 
 pub and-both : (a b : Bool) → a ≡ true → b ≡ true → (a && b) ≡ true
 and-both a b h k = simp (h, k)
+
+pub or-neither : (a b : Bool) → (a || b) ≡ false → (a ≡ false) × (b ≡ false)
+or-neither true b h = (h, cc)
+or-neither false b h = (refl, h)
 
 -- test k of a list of which every test holds
 pub all-at : (ts : List Bool) (k : ℕ) → all ts ≡ true → getD ts k true ≡ true
@@ -40,3 +44,7 @@ all-nil = refl
 pub either {ℓ} : {C : Type ℓ} (test : Bool) → (test ≡ true → C) → (test ≡ false → C) → C
 either true yes-case no-case = yes-case refl
 either false yes-case no-case = no-case refl
+
+pub and-true : (a : Bool) → (a && true) ≡ a
+and-true true = refl
+and-true false = refl

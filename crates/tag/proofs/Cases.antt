@@ -34,7 +34,7 @@ placeOf image p = wordAt (bankOf (view image) (bankIn p)) (pointerIn p)
 abbrev pub newBits : List ℕ → List ℕ → ℕ
 newBits image p = bitsOf (newPairs (pairs (ldIn p / 1024)) (pairs (ldIn p % 1024)) (pairs (view image .locks)))
 
--- what the checks have shown of a Read that hands out words, and of a Write that stores
+-- what the checks have shown of a Read that hands out words, and of a Write, a Lock and a Kill that store
 pub record Reads (image p : List ℕ) : Type 0 where
   pub fields : length p ≡ 9
   pub aim : Aimed (view image) (bankIn p) (pointerIn p) (countIn p)
@@ -45,6 +45,15 @@ pub record Writes (image p : List ℕ) : Type 0 where
   pub aim : Aimed (view image) (bankIn p) (pointerIn p) (countIn p)
   pub may : mayWrite (view image) (standing image (passwordIn p)) (bankIn p) (pointerIn p) (countIn p) ≡ true
   pub kept : lengthBroken (view image) (bankIn p) (pointerIn p) (countIn p) (dataIn p) ≡ false
+
+pub record Kills (image p : List ℕ) : Type 0 where
+  pub fields : length p ≡ 4
+  pub equal : killStanding image (passwordIn p) ≡ Equal
+
+pub record Locks (image p : List ℕ) : Type 0 where
+  pub fields : length p ≡ 7
+  pub secured : isSecured (standing image (passwordIn p)) ≡ true
+  pub kept : breaksPermalock (pairs (view image .locks)) (newPairs (pairs (ldIn p / 1024)) (pairs (ldIn p % 1024)) (pairs (view image .locks))) ≡ false
 
 aimed : (v : View) (p : List ℕ) → aimRight p ≡ true → outside v (bankIn p) (pointerIn p) (countIn p) ≡ false
     → Aimed v (bankIn p) (pointerIn p) (countIn p)
@@ -125,7 +134,9 @@ module _ (P : Act → Type 0) (plain : (e : ℕ) → P (PlainError e)) (tagged :
       store inside (not-false _ may) kept
 
   lock-cases : (v : View) (s : Standing) (mask action : ℕ)
-      → (isSecured s ≡ true → P (SetLocks (bitsOf (newPairs (pairs mask) (pairs action) (pairs (v .locks))))))
+      → (isSecured s ≡ true
+      → breaksPermalock (pairs (v .locks)) (newPairs (pairs mask) (pairs action) (pairs (v .locks))) ≡ false
+      → P (SetLocks (bitsOf (newPairs (pairs mask) (pairs action) (pairs (v .locks))))))
       → P (lockVerdict v s mask action)
   unfolding lockVerdict
   lock-cases v s mask action locks =
@@ -133,8 +144,8 @@ module _ (P : Act → Type 0) (plain : (e : ℕ) → P (PlainError e)) (tagged :
       by-test P (isWrong s) (λ h. tagged 0x16) λ h.
       by-test P (not (isSecured s)) (λ h. plain 0x13) λ secured.
       by-test P (not (eqb (pairs mask .user) 0) && eqb (v .user .words) 0) (λ h. tagged 0xC3) λ h.
-      by-test P (breaksPermalock (pairs (v .locks)) (newPairs (pairs mask) (pairs action) (pairs (v .locks)))) (λ h. tagged 0xC4) λ h.
-      locks (not-false _ secured)
+      by-test P (breaksPermalock (pairs (v .locks)) (newPairs (pairs mask) (pairs action) (pairs (v .locks)))) (λ h. tagged 0xC4) λ kept.
+      locks (not-false _ secured) kept
 
   kill-acts : (k : KillStanding) → (k ≡ Equal → P SetKilled) → P (killActs k)
   unfolding killActs
@@ -150,8 +161,8 @@ module _ (P : Act → Type 0) (plain : (e : ℕ) → P (PlainError e)) (tagged :
       → (code ≡ 0x22 → P Notify)
       → (code ≡ 0x39 → Reads image p → P (Give (placeOf image p) (2 * countIn p)))
       → (code ≡ 0x49 → Writes image p → P (Store (placeOf image p)))
-      → (code ≡ 0x82 → isSecured (standing image (passwordIn p)) ≡ true → P (SetLocks (newBits image p)))
-      → (code ≡ 0x65 → killStanding image (passwordIn p) ≡ Equal → P SetKilled)
+      → (code ≡ 0x82 → Locks image p → P (SetLocks (newBits image p)))
+      → (code ≡ 0x65 → Kills image p → P SetKilled)
       → P (actOf image code p)
   unfolding actOf verdict
   act-cases image p code notify give store locks killed =
@@ -165,5 +176,5 @@ module _ (P : Act → Type 0) (plain : (e : ℕ) → P (PlainError e)) (tagged :
       (λ h fields aim.
       write-cases v s (bankIn p) (pointerIn p) (countIn p) (dataIn p) λ inside may kept.
       store h record { fields = fields; aim = aimed v p aim inside; may = may; kept = kept })
-      (λ h fields. lock-cases v s (ldIn p / 1024) (ldIn p % 1024) (locks h))
-      (λ h fields. kill-cases v (killStanding image (passwordIn p)) (killed h))
+      (λ h fields. lock-cases v s (ldIn p / 1024) (ldIn p % 1024) λ secured kept. locks h record { fields = fields; secured = secured; kept = kept })
+      (λ h fields. kill-cases v (killStanding image (passwordIn p)) λ equal. killed h record { fields = fields; equal = equal })

@@ -1,6 +1,7 @@
 -- A good image, by tests and by facts.
 use Prim.Native.Nat.{ℕ, _+_, _*_, _≤_, _<_}
 use borrow.Author.Tests.{eqb-true, leb-true, ltb-true, eq-eqb, le-leb, lt-ltb}
+use lib.ListN.{length}
 use mathlib.Core.Bool.{true, _&&_}
 use mathlib.Core.List.{List}
 use mathlib.Core.Path.{_≡_}
@@ -98,3 +99,7 @@ unfolding good
 good-holds image g =
     let v : View = view image in
     and-both (goodHeader v) (goodBanks v && goodTag v) (header-holds v g) (and-both (goodBanks v) (goodTag v) (banks-hold v g) (tag-holds v g))
+
+pub header-there : (image : List ℕ) → good image ≡ true → 24 ≤ length image
+unfolding view
+header-there image h = omega (arith, good-facts image h .total-lent, good-facts image h .total-least)

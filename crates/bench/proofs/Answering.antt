@@ -1,0 +1,86 @@
+-- What a call answers, and what it leaves under each answer.
+use Prim.Native.Nat.{ℕ, _+_, _≤_}
+use lib.ListN.{length, take, drop, length-drop}
+use mathlib.Core.Bool.{Bool, true, false}
+use mathlib.Core.List.{List}
+use mathlib.Core.Logic.{_≢_}
+use mathlib.Core.Path.{_≡_, refl, ap, sym, _∙_}
+use native.Mathlib.Omega.{arith}
+use Rattle.bench.proofs.Steps.{Ready, step-cases}
+use Rattle.bench.proofs.Tallies.{not-full-good, not-full-error, not-full-dropped, raised-below}
+use Rattle.bench.specs.Claims.{answerOf, firstOf, AnswerNumbers, NothingChanges, DropTakesOneByte, OneFrame, AnswerIsOneFrame}
+use Rattle.bench.specs.Counts.{full, limit}
+use Rattle.bench.specs.Machine.{State, Call, Step, numberOf, unchanged, dropped, answered, actIn, afterFinding, inputOf, restOf, step}
+use Rattle.bench.specs.declared.outcome.Outcome.{Outcome}
+use Rattle.frame.proofs.Accepting.{Accepted}
+use Rattle.frame.proofs.FrameBytes.{length-written, take-written, drop-written}
+use Rattle.frame.proofs.Picks.{pick-or, pick-not-both}
+use Rattle.frame.specs.Bytes.{pick, number}
+use Rattle.frame.specs.Finding.{find, plIn, checkRight, endRight}
+use Rattle.frame.specs.Frames.{checkOf, frameLength, longestCommand, longestAnswer}
+use Rattle.frame.specs.declared.finding.Found.{Found}
+use Rattle.tag.proofs.AnswerBytes.{answer-most}
+use Rattle.tag.specs.Answers.{answer}
+use Rattle.tag.specs.Commands.{actOf}
+
+-- the number of a step, and the step after finding, go into a choice
+number-pick : (test : Bool) (x y : Step) → numberOf (pick test x y .outcome) ≡ pick test (numberOf (x .outcome)) (numberOf (y .outcome))
+unfolding pick
+number-pick true x y = refl
+number-pick false x y = refl
+
+found-pick : (s : State) (rest : List ℕ) (test : Bool) (x y : Found)
+    → afterFinding s rest (pick test x y) ≡ pick test (afterFinding s rest x) (afterFinding s rest y)
+unfolding pick
+found-pick s rest true x y = refl
+found-pick s rest false x y = refl
+
+pub answer-numbers : AnswerNumbers
+unfolding firstOf step numberOf unchanged dropped answered afterFinding full limit longestAnswer find checkRight endRight checkOf plIn frameLength longestCommand
+answer-numbers c s = simp (number-pick, found-pick, pick-or, pick-not-both)
+
+pub nothing-changes : NothingChanges
+unfolding unchanged dropped answered numberOf
+nothing-changes c s =
+    step-cases c s (λ (x : Step). numberOf (x .outcome) ≢ 0 → numberOf (x .outcome) ≢ 3 → (x .next ≡ s) × (x .length ≡ 0))
+    (λ o m n zero three. (refl, refl))
+    (λ r some zero three. absurd (three refl))
+    (λ r pl a zero three. absurd (zero refl))
+
+pub drop-takes-one-byte : DropTakesOneByte
+unfolding unchanged dropped answered numberOf
+drop-takes-one-byte c s =
+    step-cases c s
+    (λ (x : Step).
+    numberOf (x .outcome) ≡ 3
+    → (x .length ≡ 0)
+    × (x .next
+    ≡ record {
+      image = s .image;
+      output = s .output;
+      cursor = s .cursor + 1;
+      tally = record { good = s .tally .good; error = s .tally .error; dropped = s .tally .dropped + 1 };
+    }))
+    (λ o m n three. absurd (n three))
+    (λ r some three. (refl, rw (raised-below (s .tally .dropped) (not-full-dropped (s .tally) (r .not-full)))))
+    (λ r pl a three. absurd (omega (arith, three)))
+
+pub framed : (c : Call) (s : State) → Ready c s → (pl : ℕ) → Accepted (restOf c s) pl → OneFrame c s (answered s (restOf c s) pl (actIn s (restOf c s)))
+unfolding answered actIn frameLength plIn restOf
+framed c s r pl a =
+    let frame : List ℕ = answer (s .image) (actIn s (restOf c s)) in
+    let short : length frame ≤ 136 = answer-most (s .image) _ _ (r .image-good) in
+    record {
+      frame-first = take-written frame (s .output);
+      at-most-136 = short;
+      behind-stays = drop-written frame (s .output);
+      room-stays = length-written frame (s .output) (omega (arith, r .room));
+      over-the-command = omega (arith, a .read);
+      not-past-the-end = omega (arith, a .fits, length-drop (s .cursor) (inputOf c), r .not-past);
+    }
+
+pub answer-is-one-frame : AnswerIsOneFrame
+unfolding unchanged dropped answered numberOf
+answer-is-one-frame c s =
+    step-cases c s (λ (x : Step). numberOf (x .outcome) ≡ 0 → OneFrame c s x) (λ o m n e. absurd (m e)) (λ r some e. absurd (omega (arith, e)))
+    (λ r pl a e. framed c s r pl a)

@@ -1,0 +1,140 @@
+-- The bound on calls: a call that takes bytes moves the cursor on, so at most as many calls as there are bytes take some.
+use Prim.Native.Nat.{ℕ, zero, suc, _+_, _≤_, _<_}
+use borrow.Author.Tests.{ne-eqb}
+use lib.Dec.{eqb}
+use lib.ListN.{length, replicate, length-drop}
+use mathlib.Core.Bool.{Bool, true, false, _||_}
+use mathlib.Core.List.{List, [], _∷_}
+use mathlib.Core.Logic.{_⊎_, inl, inr, ⊎-elim}
+use mathlib.Core.Path.{_≡_, refl, ap, sym, _∙_}
+use native.Mathlib.Omega.{arith}
+use Rattle.bench.proofs.Answering.{framed}
+use Rattle.bench.proofs.Steps.{Ready, ready-cases}
+use Rattle.bench.specs.Claims.{answerOf, start, count, takes, Bound}
+use Rattle.bench.specs.Counts.{full, limit, raised, freshTally}
+use Rattle.bench.specs.Machine.{State, Call, call, Step, numberOf, unchanged, dropped, answered, counted, actIn, inputOf, restOf, step, run, after}
+use Rattle.bench.specs.declared.tally.Tally.{Tally}
+use Rattle.frame.proofs.Accepting.{Accepted}
+use Rattle.frame.proofs.Picks.{by-test}
+use Rattle.frame.specs.Bytes.{pick}
+use Rattle.frame.specs.Finding.{codeIn, parametersIn, plIn}
+use Rattle.frame.specs.Frames.{frameLength}
+use Rattle.tag.proofs.StaysGood.{stays-good}
+use Rattle.tag.specs.Answers as Answers
+use Rattle.tag.specs.Image.{good}
+use Rattle.tag.specs.declared.commands.Act.{Act}
+
+-- no count is above n
+few-not-full : (t : Tally) (n : ℕ) → t .good + t .error + t .dropped ≤ n → n < limit → full t ≡ false
+unfolding full
+few-not-full t n h small =
+    simp (
+      ne-eqb (t .good) limit (λ e. omega arith),
+      ne-eqb (t .error) limit (λ e. omega arith),
+      ne-eqb (t .dropped) limit (λ e. omega arith),
+    )
+
+raised-most : (n : ℕ) → raised n ≤ n + 1
+unfolding raised
+raised-most n = by-test (λ (k : ℕ). k ≤ n + 1) (eqb n limit) (λ h. omega arith) (λ h. omega arith)
+
+counted-most : (t : Tally) (act : Act) → counted act t .good + counted act t .error + counted act t .dropped ≤ t .good + t .error + t .dropped + 1
+unfolding counted
+counted-most t act =
+    by-test (λ (u : Tally). u .good + u .error + u .dropped ≤ t .good + t .error + t .dropped + 1) (Answers.isError act)
+    (λ h. omega (arith, raised-most (t .error)))
+    (λ h. omega (arith, raised-most (t .good)))
+
+module _ (input : List ℕ) (small : length input < limit) where
+  -- what holds of the state at every call
+  record Fit (s : State) : Type 0 where
+    not-past : s .cursor ≤ length input
+    image-good : good (s .image) ≡ true
+    room : 136 ≤ length (s .output)
+    few : s .tally .good + s .tally .error + s .tally .dropped ≤ s .cursor
+
+  ready : (s : State) → Fit s → Ready (call input) s
+  unfolding inputOf
+  ready s f =
+      record {
+        not-past = f .not-past;
+        image-good = f .image-good;
+        room = f .room;
+        not-full = few-not-full (s .tally) (s .cursor) (f .few) (omega (arith, f .not-past));
+      }
+
+  -- a step ends the run, or takes bytes and leaves a state in which all that holds again
+  record Taken (s : State) (x : Step) : Type 0 where
+    taken : takes x ≡ true
+    on : s .cursor < x .next .cursor
+    fit : Fit (x .next)
+
+  Ends : Step → Type 0
+  Ends x = (numberOf (x .outcome) ≡ 1) ⊎ (numberOf (x .outcome) ≡ 2)
+
+  drop-taken : (s : State) → Fit s → 1 ≤ length (restOf (call input) s) → Taken s (dropped s)
+  unfolding dropped takes numberOf restOf inputOf
+  drop-taken s f some =
+      record {
+        taken = refl;
+        on = omega arith;
+        fit =
+            record {
+              not-past = omega (arith, length-drop (s .cursor) input);
+              image-good = f .image-good;
+              room = f .room;
+              few = omega (arith, raised-most (s .tally .dropped), f .few);
+            };
+      }
+
+  answer-taken : (s : State) (f : Fit s) (pl : ℕ) → Accepted (restOf (call input) s) pl
+      → Taken s (answered s (restOf (call input) s) pl (actIn s (restOf (call input) s)))
+  unfolding answered takes numberOf actIn frameLength inputOf
+  answer-taken s f pl a =
+      let rest : List ℕ = restOf (call input) s in
+      let frame = framed (call input) s (ready s f) pl a in
+      record {
+        taken = refl;
+        on = omega arith;
+        fit =
+            record {
+              not-past = frame .not-past-the-end;
+              image-good = stays-good (s .image) (parametersIn rest) (codeIn rest) (f .image-good);
+              room = omega (arith, frame .room-stays, f .room);
+              few = omega (arith, counted-most (s .tally) (actIn s rest), f .few);
+            };
+      }
+
+  next-call : (s : State) → Fit s → Ends (step (call input) s) ⊎ Taken s (step (call input) s)
+  unfolding Ends unchanged numberOf
+  next-call s f =
+      ready-cases (call input) s (λ (x : Step). Ends x ⊎ Taken s x) (ready s f) (inl (inl refl)) (inl (inr refl))
+      (λ some. inr (drop-taken s f some))
+      (λ pl a. inr (answer-taken s f pl a))
+
+  -- at most m calls take bytes, where at most m bytes are left
+  Within : ℕ → State → Type 0
+  Within m s =
+      (k : ℕ)
+      × (k ≤ m)
+      × (count takes (run (replicate k (call input)) s) ≡ k)
+      × ((answerOf (call input) (after (replicate k (call input)) s) ≡ 1) ⊎ (answerOf (call input) (after (replicate k (call input)) s) ≡ 2))
+
+  one-more : (m : ℕ) (s : State) → takes (step (call input) s) ≡ true → Within m (step (call input) s .next) → Within (suc m) s
+  unfolding Within run after count pick
+  one-more m s t w = (suc (w .0), omega (arith, w .1), rw t (omega (arith, w .2)), w .3)
+
+  within : (m : ℕ) (s : State) → Fit s → length input ≤ s .cursor + m → Within m s
+  unfolding Within Ends run after count
+  within zero s f h =
+      ⊎-elim (λ ends. (0, omega arith, refl, ends)) (λ t. absurd (omega (arith, t .on, t .fit .not-past))) (next-call s f)
+  within (suc m) s f h =
+      ⊎-elim (λ ends. (0, omega arith, refl, ends))
+      (λ t. one-more m s (t .taken) (within m (step (call input) s .next) (t .fit) (omega (arith, t .on, h))))
+      (next-call s f)
+
+pub bound : Bound
+unfolding Within limit
+bound input image output small h room =
+    within input (omega arith) (length input) (start image output 0 freshTally)
+    record { not-past = omega arith; image-good = h; room = room; few = omega arith } (omega arith)

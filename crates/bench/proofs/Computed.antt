@@ -1,0 +1,77 @@
+-- What is computed: the starred cases, and an instance of demand 3's premises.
+use Prim.Native.Nat.{ℕ}
+use lib.ListN.{replicate}
+use lib.Seq.{sets}
+use mathlib.Core.List.{List, [], _∷_, _++_}
+use mathlib.Core.Logic.{inl}
+use mathlib.Core.Path.{_≡_, refl}
+use native.Mathlib.Omega.{arith}
+use Rattle.bench.specs.Claims.{Starred, PremisesMet, Demand3CanBeMet}
+use Rattle.bench.specs.Counts.{limit, full, raised}
+use Rattle.bench.specs.Machine.{Call, call, numberOf, unchanged, dropped, counted, answered, actIn, afterFinding, inputOf, restOf, step, run}
+use Rattle.bench.specs.Sample.{sample}
+use Rattle.bench.specs.Secrecy.{passwordsAt, acceptedBy, accepted, carries, carriesNone, noneCarries}
+use Rattle.crc.specs.Crc.{leaving, shifted, added, bitStep, bitSteps, entered, byteStep, crc, tagCrc}
+use Rattle.frame.specs.Bytes.{pick, all, byte, number, double, twoBytes, part}
+use Rattle.frame.specs.Finding.{codeIn, plIn, parametersIn, checkRight, endRight, find}
+use Rattle.frame.specs.Frames.{sum, checkOf, checked, frameOf, frameLength, longestCommand, longestAnswer, written}
+use Rattle.tag.specs.Answers.{pcAndEpc, tail, answer, changed, isError}
+use Rattle.tag.specs.Commands.{passwordIn, bankIn, pointerIn, countIn, dataIn, ldIn, aimRight, parseInventory, parseRead, parseWrite, parseLock, parseKill, parse, gone, outside, inventoryVerdict, readVerdict, lengthBroken, writeVerdict, lockVerdict, killActs, killVerdict, verdict, actOf}
+use Rattle.tag.specs.Image.{bankAt, view, rssi, bankOf, wordAt, endOf, epcLength, killPassword, accessPassword, goodHeader, goodBanks, goodTag, good}
+use Rattle.tag.specs.Locks.{pairs, bitsOf, permalocked, standingOf, standing, isSecured, isWrong, killStandingOf, killStanding, allows, touches, mayTouchPasswords, mayRead, mayWrite, newBit, newPair, newPairs, breaks, breaksPermalock}
+
+-- all that the machine is made of, opened at once
+everything : Unit {0}
+unfolding limit full raised numberOf unchanged dropped written counted answered actIn afterFinding inputOf restOf step run leaving shifted added bitStep bitSteps entered byteStep crc tagCrc pick all byte number double twoBytes part codeIn plIn parametersIn checkRight endRight find sum checkOf checked frameOf frameLength longestCommand longestAnswer pcAndEpc tail answer changed isError passwordIn bankIn pointerIn countIn dataIn ldIn aimRight parseInventory parseRead parseWrite parseLock parseKill parse gone outside inventoryVerdict readVerdict lengthBroken writeVerdict lockVerdict killActs killVerdict verdict actOf bankAt view rssi bankOf wordAt endOf epcLength killPassword accessPassword goodHeader goodBanks goodTag good pairs bitsOf permalocked standingOf standing isSecured isWrong killStandingOf killStanding allows touches mayTouchPasswords mayRead mayWrite newBit newPair newPairs breaks breaksPermalock passwordsAt acceptedBy accepted carries carriesNone noneCarries
+everything = tt
+
+pub starred : Starred
+unfolding everything
+starred = refl
+
+-- ---- demand 3's premises, met
+
+-- the sample tag with both password regions locked, and the same with other passwords
+hidden : List ℕ
+hidden = sets sample 20 (0x02 ∷ 0x80 ∷ [])
+
+other : List ℕ
+unfolding hidden
+other = sets hidden 24 (0x11 ∷ 0x22 ∷ 0x33 ∷ 0x44 ∷ 0x55 ∷ 0x66 ∷ 0x77 ∷ 0x88 ∷ [])
+
+-- a Read, a Write and a Lock with password 00000000, and a Kill with 00000001
+commands : List ℕ
+commands =
+    (0xBB ∷ 0x00 ∷ 0x39 ∷ 0x00 ∷ 0x09 ∷ 0x00 ∷ 0x00 ∷ 0x00 ∷ 0x00 ∷ 0x03 ∷ 0x00 ∷ 0x00 ∷ 0x00 ∷ 0x02 ∷ 0x47 ∷ 0x7E ∷ [])
+    ++ (0xBB ∷ 0x00 ∷ 0x49 ∷ 0x00 ∷ 0x0B ∷ 0x00 ∷ 0x00 ∷ 0x00 ∷ 0x00 ∷ 0x03 ∷ 0x00 ∷ 0x00 ∷ 0x00 ∷ 0x01 ∷ 0xDE ∷ 0xAD ∷ 0xE3 ∷ 0x7E ∷ [])
+    ++ (0xBB ∷ 0x00 ∷ 0x82 ∷ 0x00 ∷ 0x07 ∷ 0x00 ∷ 0x00 ∷ 0x00 ∷ 0x00 ∷ 0x02 ∷ 0x00 ∷ 0x80 ∷ 0x0B ∷ 0x7E ∷ [])
+    ++ (0xBB ∷ 0x00 ∷ 0x65 ∷ 0x00 ∷ 0x04 ∷ 0x00 ∷ 0x00 ∷ 0x00 ∷ 0x01 ∷ 0x6A ∷ 0x7E ∷ [])
+
+calls : List Call
+unfolding commands
+calls = replicate 4 (call commands)
+
+output : List ℕ
+output = replicate 136 0
+
+met : PremisesMet hidden other output calls
+unfolding everything hidden other commands calls output
+met =
+    record {
+      premises =
+          record {
+            first-good = refl;
+            second-good = refl;
+            differ-only = record { before = refl; behind = refl };
+            first-hidden = record { kill-nonzero = omega arith; access-nonzero = omega arith; kill-locked = inl refl; access-locked = inl refl };
+            second-hidden = record { kill-nonzero = omega arith; access-nonzero = omega arith; kill-locked = inl refl; access-locked = inl refl };
+            first-run = refl;
+            second-run = refl;
+          };
+      kill-differs = omega arith;
+      access-differs = omega arith;
+      four-commands = refl;
+    }
+
+pub demand3-can-be-met : Demand3CanBeMet
+demand3-can-be-met = (hidden, other, output, calls, met)

@@ -1,0 +1,207 @@
+-- What each command stores: all of it or nothing, on its own bytes alone.
+use Prim.Native.Nat.{ℕ, _+_, _*_, _≤_, _<_}
+use lib.Dec.{eqb}
+use lib.ListN.{length}
+use lib.Seq.{sets}
+use mathlib.Core.Bool.{Bool, true, false, not, _&&_, true≢false}
+use mathlib.Core.List.{List, [], _∷_}
+use mathlib.Core.Logic.{_⊎_, inl, inr, _≢_, ⊎-elim}
+use mathlib.Core.Path.{_≡_, refl, ap, sym, subst, _∙_}
+use borrow.Author.Tests.{eqb-true, not-true}
+use native.Mathlib.Omega.{arith}
+use Rattle.bench.proofs.Steps.{Ready, step-cases}
+use Rattle.bench.specs.Claims.{Overwritten, Effect, NamedWords, WriteEffect, LockEffect, KillEffect, NoOtherEffect, GapsStay, pairsAfter, isGood, isError}
+use Rattle.bench.specs.Machine.{State, Call, Step, numberOf, unchanged, dropped, answered, actIn, restOf, step}
+use Rattle.frame.proofs.Accepting.{Accepted}
+use Rattle.frame.proofs.Numbers.{length-two-bytes}
+use Rattle.frame.proofs.Stores.{take-sets, drop-sets-behind, part-sets, byte-sets-before, byte-sets-behind}
+use Rattle.frame.proofs.Tests.{and-left, and-right}
+use Rattle.frame.specs.Bytes.{byte, twoBytes}
+use Rattle.frame.specs.Finding.{codeIn, parametersIn}
+use Rattle.tag.proofs.AnswerBytes.{error-code}
+use Rattle.tag.proofs.Cases.{Writes, placeOf, newBits, act-cases}
+use Rattle.tag.proofs.GoodImages.{good-facts, header-there}
+use Rattle.tag.proofs.Places.{Inside, inside, data-length}
+use Rattle.tag.specs.Answers.{answer, changed}
+use Rattle.tag.specs.Answers as Answers
+use Rattle.tag.specs.Commands.{bankIn, pointerIn, countIn, dataIn, actOf}
+use Rattle.tag.specs.Image.{good, view, bankOf, wordAt, endOf}
+use Rattle.tag.specs.Locks.{pairs, bitsOf, breaksPermalock}
+use Rattle.tag.specs.declared.commands.Act.{Act}
+
+overwritten : (at : ℕ) (bytes old : List ℕ) → at + length bytes ≤ length old → Overwritten at bytes old (sets old at bytes)
+overwritten at bytes old h =
+    record {
+      before-stays = take-sets at old at bytes (omega arith);
+      stored = part-sets old at bytes h;
+      behind-stays = drop-sets-behind (at + length bytes) old at bytes (omega arith);
+    }
+
+-- an answered step is good or an error as its act is
+module _ (s : State) (rest : List ℕ) (pl : ℕ) (act : Act) where
+  pub error-is : isError (answered s rest pl act) ≡ Answers.isError act
+  unfolding isError answered numberOf
+  error-is = error-code (s .image) act (s .output)
+
+  pub good-is : isGood (answered s rest pl act) ≡ not (Answers.isError act)
+  unfolding isGood answered numberOf
+  good-is = ap not (error-code (s .image) act (s .output))
+
+-- a step that is not answered is neither
+not-good : (x : Step) → numberOf (x .outcome) ≢ 0 → isGood x ≡ true → ⊥
+unfolding isGood
+not-good x n h = n (eqb-true _ _ (and-left (eqb (numberOf (x .outcome)) 0) (not (eqb (byte (x .next .output) 2) 0xFF)) h))
+
+not-error : (x : Step) → numberOf (x .outcome) ≢ 0 → isError x ≡ true → ⊥
+unfolding isError
+not-error x n h = n (eqb-true _ _ (and-left (eqb (numberOf (x .outcome)) 0) (eqb (byte (x .next .output) 2) 0xFF) h))
+
+-- from what an act does to what the step does
+record ActEffect (image p : List ℕ) (at : ℕ) (bytes : List ℕ) (Also : Type 0) (act : Act) : Type 0 where
+  error-keeps : Answers.isError act ≡ true → changed image p act ≡ image
+  good-stores : Answers.isError act ≡ false → Overwritten at bytes image (changed image p act)
+  good-also : Answers.isError act ≡ false → Also
+
+module _ (c : Call) (s : State) (at : ℕ) (bytes : List ℕ) (Also : Type 0) where
+  StepEffect : Step → Type 0
+  StepEffect x = Effect s x at bytes × (isGood x ≡ true → Also)
+
+  from-answered : (rest : List ℕ) (pl : ℕ) (act : Act) → ActEffect (s .image) (parametersIn rest) at bytes Also act → StepEffect (answered s rest pl act)
+  unfolding StepEffect answered
+  from-answered rest pl act e =
+      let calm : isGood (answered s rest pl act) ≡ true → Answers.isError act ≡ false = λ h. not-true _ (sym (good-is s rest pl act) ∙ h) in (
+        record {
+          error-stores-nothing = λ h. e .error-keeps (sym (error-is s rest pl act) ∙ h);
+          good-stores-all = λ h. e .good-stores (calm h);
+        },
+        λ h. e .good-also (calm h),
+      )
+
+  from-act : (good (s .image) ≡ true → ActEffect (s .image) (parametersIn (restOf c s)) at bytes Also (actIn s (restOf c s))) → StepEffect (step c s)
+  unfolding StepEffect unchanged dropped numberOf
+  from-act e =
+      step-cases c s StepEffect
+      (λ o m n. (
+        record { error-stores-nothing = λ h. refl; good-stores-all = λ h. absurd (not-good (unchanged s o) m h) },
+        λ h. absurd (not-good (unchanged s o) m h),
+      ))
+      (λ r some. (
+        record { error-stores-nothing = λ h. refl; good-stores-all = λ h. absurd (not-good (dropped s) (omega arith) h) },
+        λ h. absurd (not-good (dropped s) (omega arith) h),
+      ))
+      (λ r pl a. from-answered (restOf c s) pl (actIn s (restOf c s)) (e (r .image-good)))
+
+-- ---- the acts
+
+module _ (image p : List ℕ) (at : ℕ) (bytes : List ℕ) (Also : Type 0) where
+  keeps : (act : Act) → Answers.isError act ≡ true → changed image p act ≡ image → ActEffect image p at bytes Also act
+  keeps act h k =
+      record { error-keeps = λ e. k; good-stores = λ e. absurd (true≢false (sym h ∙ e)); good-also = λ e. absurd (true≢false (sym h ∙ e)) }
+
+  stores : (act : Act) → Answers.isError act ≡ false → Overwritten at bytes image (changed image p act) → Also → ActEffect image p at bytes Also act
+  stores act h o w = record { error-keeps = λ e. absurd (true≢false (sym e ∙ h)); good-stores = λ e. o; good-also = λ e. w }
+
+-- where the code is one, no case of another code can be
+other : {C : Type 0} (code m n : ℕ) → code ≡ m → code ≡ n → m ≢ n → C
+other code m n e f d = absurd (d (sym e ∙ f))
+
+pub write-effect : WriteEffect
+unfolding StepEffect actIn changed Answers.isError
+write-effect c s code =
+    let image : List ℕ = s .image in
+    let p : List ℕ = parametersIn (restOf c s) in
+    from-act c s (placeOf image p) (dataIn p) (NamedWords image p) λ h.
+    act-cases (ActEffect image p (placeOf image p) (dataIn p) (NamedWords image p))
+    (λ e. keeps image p _ _ _ _ refl refl)
+    (λ e. keeps image p _ _ _ _ refl refl)
+    image p (codeIn (restOf c s))
+    (λ e. other _ 0x49 0x22 code e (omega arith))
+    (λ e reads. other _ 0x49 0x39 code e (omega arith))
+    (λ e writes.
+    let at : Inside image p = inside image p (good-facts image h) (writes .aim) in
+    let sized : length (dataIn p) ≡ 2 * countIn p = data-length image p writes in
+    stores image p _ _ _ _ refl (overwritten (placeOf image p) (dataIn p) image (omega (arith, at .to, sized)))
+    record { bank-known = writes .aim .bank-known; in-the-bank = writes .aim .inside; all-of-them = sized })
+    (λ e secured. other _ 0x49 0x82 code e (omega arith))
+    (λ e equal. other _ 0x49 0x65 code e (omega arith))
+
+-- a Lock that stores its pairs breaks no permalock
+pub lock-keeps : (c : Call) (s : State) → codeIn (restOf c s) ≡ 0x82
+    → Effect s (step c s) 20 (twoBytes (bitsOf (pairsAfter s (parametersIn (restOf c s)))))
+    × (isGood (step c s) ≡ true → breaksPermalock (pairs (view (s .image) .locks)) (pairsAfter s (parametersIn (restOf c s))) ≡ false)
+unfolding StepEffect actIn changed Answers.isError
+lock-keeps c s code =
+    let image : List ℕ = s .image in
+    let p : List ℕ = parametersIn (restOf c s) in
+    let Kept : Type 0 = breaksPermalock (pairs (view image .locks)) (pairsAfter s p) ≡ false in
+    from-act c s 20 (twoBytes (newBits image p)) Kept λ h.
+    act-cases (ActEffect image p 20 (twoBytes (newBits image p)) Kept)
+    (λ e. keeps image p _ _ _ _ refl refl)
+    (λ e. keeps image p _ _ _ _ refl refl)
+    image p (codeIn (restOf c s))
+    (λ e. other _ 0x82 0x22 code e (omega arith))
+    (λ e reads. other _ 0x82 0x39 code e (omega arith))
+    (λ e writes. other _ 0x82 0x49 code e (omega arith))
+    (λ e locks.
+    stores image p _ _ _ _ refl
+    (overwritten 20 (twoBytes (newBits image p)) image (omega (arith, header-there image h, length-two-bytes (newBits image p))))
+    (locks .kept))
+    (λ e equal. other _ 0x82 0x65 code e (omega arith))
+
+pub lock-effect : LockEffect
+lock-effect c s code = lock-keeps c s code .0
+
+pub kill-effect : KillEffect
+unfolding StepEffect actIn changed Answers.isError
+kill-effect c s code =
+    let image : List ℕ = s .image in
+    let p : List ℕ = parametersIn (restOf c s) in
+    from-act c s 22 (1 ∷ []) Unit
+    (λ h.
+    act-cases (ActEffect image p 22 (1 ∷ []) Unit)
+    (λ e. keeps image p _ _ _ _ refl refl)
+    (λ e. keeps image p _ _ _ _ refl refl)
+    image p (codeIn (restOf c s))
+    (λ e. other _ 0x65 0x22 code e (omega arith))
+    (λ e reads. other _ 0x65 0x39 code e (omega arith))
+    (λ e writes. other _ 0x65 0x49 code e (omega arith))
+    (λ e secured. other _ 0x65 0x82 code e (omega arith))
+    (λ e equal. stores image p _ _ _ _ refl (overwritten 22 (1 ∷ []) image (omega (arith, header-there image h))) tt))
+    .0
+
+-- what is not answered leaves the image
+pub image-after : (P : List ℕ → Type 0) (c : Call) (s : State) → P (s .image)
+    → (good (s .image) ≡ true → P (changed (s .image) (parametersIn (restOf c s)) (actIn s (restOf c s))))
+    → P (step c s .next .image)
+unfolding unchanged dropped answered
+image-after P c s same acts =
+    step-cases c s (λ (x : Step). P (x .next .image)) (λ o m n. same) (λ r some. same) (λ r pl a. acts (r .image-good))
+
+pub no-other-effect : NoOtherEffect
+unfolding actIn changed
+no-other-effect c s not-write not-lock not-kill =
+    let image : List ℕ = s .image in
+    let p : List ℕ = parametersIn (restOf c s) in
+    image-after (λ (new : List ℕ). new ≡ image) c s refl λ h.
+    act-cases (λ (act : Act). changed image p act ≡ image) (λ e. refl) (λ e. refl) image p (codeIn (restOf c s))
+    (λ e. refl)
+    (λ e reads. refl)
+    (λ e writes. absurd (not-write e))
+    (λ e secured. absurd (not-lock e))
+    (λ e equal. absurd (not-kill e))
+
+pub gaps-stay : GapsStay
+unfolding actIn changed wordAt endOf
+gaps-stay c s i h far gap =
+    let image : List ℕ = s .image in
+    let p : List ℕ = parametersIn (restOf c s) in
+    image-after (λ (new : List ℕ). byte new i ≡ byte image i) c s refl λ h.
+    act-cases (λ (act : Act). byte (changed image p act) i ≡ byte image i) (λ e. refl) (λ e. refl) image p (codeIn (restOf c s))
+    (λ e. refl)
+    (λ e reads. refl)
+    (λ e writes.
+    ⊎-elim (λ before. byte-sets-before image (placeOf image p) (dataIn p) i (omega arith))
+    (λ behind. byte-sets-behind image (placeOf image p) (dataIn p) i (omega (arith, data-length image p writes, writes .aim .inside)))
+    (gap (bankIn p) (writes .aim .bank-known)))
+    (λ e secured. byte-sets-behind image 20 (twoBytes (newBits image p)) i (omega (arith, length-two-bytes (newBits image p))))
+    (λ e equal. byte-sets-behind image 22 (1 ∷ []) i (omega arith))

@@ -1,0 +1,93 @@
+-- Lists of calls: the counts of a run, and the image after it.
+use Prim.Native.Nat.{ℕ, _+_}
+use borrow.Author.Tests.{ne-eqb}
+use lib.Dec.{eqb}
+use mathlib.Core.Bool.{Bool, true, false, not, _&&_}
+use mathlib.Core.List.{List, [], _∷_}
+use mathlib.Core.Logic.{_≢_}
+use mathlib.Core.Path.{_≡_, refl, ap, sym, subst, _∙_}
+use native.Mathlib.Nat.{add-zero, add-assoc}
+use native.Mathlib.Omega.{arith}
+use Rattle.bench.proofs.Effects.{error-is, good-is, image-after}
+use Rattle.bench.proofs.Steps.{step-cases}
+use Rattle.bench.proofs.Tallies.{not-full-good, not-full-error, not-full-dropped, raised-below}
+use Rattle.bench.specs.Claims.{count, isGood, isError, isDropped, History, GoodStaysGood}
+use Rattle.bench.specs.Counts.{full, withGood, withError}
+use Rattle.bench.specs.Machine.{State, Call, Step, numberOf, unchanged, dropped, answered, counted, actIn, restOf, step, run, after}
+use Rattle.bench.specs.declared.tally.Tally.{Tally}
+use Rattle.bench.specs.declared.outcome.Outcome.{Outcome}
+use Rattle.frame.proofs.Picks.{pick-true, pick-false}
+use Rattle.frame.specs.Bytes.{pick, byte}
+use Rattle.frame.specs.Finding.{codeIn, parametersIn}
+use Rattle.tag.proofs.StaysGood.{stays-good}
+use Rattle.tag.specs.Answers as Answers
+use Rattle.tag.specs.Commands.{actOf}
+use Rattle.tag.specs.Image.{good}
+use Rattle.tag.specs.declared.commands.Act.{Act}
+
+-- the tally that a step leaves: each count with one more where the step is of its kind
+abbrev Counts : Tally → Step → Tally
+Counts t x =
+    record {
+      good = t .good + pick (isGood x) 1 0;
+      error = t .error + pick (isError x) 1 0;
+      dropped = t .dropped + pick (isDropped x) 1 0;
+    }
+
+-- the choice of the count that an answer raises
+raises : (t : Tally) (error : Bool) → full t ≡ false
+    → pick error (withError t) (withGood t)
+    ≡ record { good = t .good + pick (not error) 1 0; error = t .error + pick error 1 0; dropped = t .dropped + 0 }
+unfolding pick
+raises t true h =
+    simp (raised-below (t .error) (not-full-error t h), add-zero)
+raises t false h =
+    simp (raised-below (t .good) (not-full-good t h), add-zero)
+
+-- a step with neither answer 0 nor 3 is of no kind
+module _ (x : Step) (m : numberOf (x .outcome) ≢ 0) where
+  none-good : isGood x ≡ false
+  unfolding isGood
+  none-good = simp (ne-eqb (numberOf (x .outcome)) 0 m)
+
+  none-error : isError x ≡ false
+  unfolding isError
+  none-error = simp (ne-eqb (numberOf (x .outcome)) 0 m)
+
+unchanged-counts : (s : State) (o : Outcome) → numberOf o ≢ 0 → numberOf o ≢ 3 → unchanged s o .next .tally ≡ Counts (s .tally) (unchanged s o)
+unfolding unchanged isDropped
+unchanged-counts s o m n =
+    simp (none-good (unchanged s o) m, none-error (unchanged s o) m, ne-eqb (numberOf o) 3 n, pick-false, add-zero)
+
+dropped-counts : (s : State) → full (s .tally) ≡ false → dropped s .next .tally ≡ Counts (s .tally) (dropped s)
+unfolding dropped isGood isError isDropped numberOf
+dropped-counts s h =
+    simp (raised-below (s .tally .dropped) (not-full-dropped (s .tally) h), pick-true, pick-false, add-zero)
+
+answered-counts : (s : State) (rest : List ℕ) (pl : ℕ) (act : Act) → full (s .tally) ≡ false
+    → answered s rest pl act .next .tally ≡ Counts (s .tally) (answered s rest pl act)
+unfolding answered counted isDropped numberOf
+answered-counts s rest pl act h =
+    raises (s .tally) (Answers.isError act) h ∙ simp (good-is s rest pl act, error-is s rest pl act, pick-false)
+
+step-counts : (c : Call) (s : State) → step c s .next .tally ≡ Counts (s .tally) (step c s)
+step-counts c s =
+    step-cases c s (λ (x : Step). x .next .tally ≡ Counts (s .tally) x) (unchanged-counts s)
+    (λ r some. dropped-counts s (r .not-full))
+    (λ r pl a. answered-counts s (restOf c s) pl (actIn s (restOf c s)) (r .not-full))
+
+-- "counts equal those at the start plus the number of such calls in the history"
+pub history : History
+unfolding run after count
+history [] s = simp add-zero
+history (c ∷ calls) s =
+    history calls (step c s .next)
+    ∙ simp (step-counts c s, add-assoc)
+
+-- "After every call a good image is good."
+pub good-stays-good : GoodStaysGood
+unfolding after actIn
+good-stays-good [] s h = h
+good-stays-good (c ∷ calls) s h =
+    good-stays-good calls (step c s .next)
+    (image-after (λ (image : List ℕ). good image ≡ true) c s h (stays-good (s .image) (parametersIn (restOf c s)) (codeIn (restOf c s))))

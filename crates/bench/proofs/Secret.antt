@@ -1,0 +1,299 @@
+-- Demand 3: two runs on images that differ only in hidden passwords, with no command that carries one, are the same call by call.
+use Prim.Native.Nat.{ℕ, _+_, _-_, _*_, _≤_, _<_}
+use borrow.Author.Tests.{ltb-false, not-false, eqb-true}
+use lib.Dec.{eqb, leb, ltb}
+use lib.ListN.{length, take, drop}
+use lib.Seq.{sets}
+use mathlib.Core.Bool.{Bool, true, false, not, _&&_, _||_}
+use mathlib.Core.List.{List, [], _∷_, _++_}
+use mathlib.Core.Logic.{_⊎_, inl, inr, _≢_, ⊎-elim}
+use mathlib.Core.Path.{_≡_, refl, ap, ap₂, sym, subst, _∙_}
+use native.Mathlib.Omega.{arith}
+use Rattle.bench.proofs.Quiet.{Kept, Public, Untold, untold, public-act, same-act}
+use Rattle.bench.proofs.Steps.{Ready, step-ready}
+use Rattle.bench.proofs.Twins.{part-behind, same-view, same-rssi, same-epc, same-tail}
+use Rattle.bench.specs.Claims.{start, Premises, Demand3}
+use Rattle.bench.specs.Counts.{full}
+use Rattle.bench.specs.Machine.{State, Call, Step, numberOf, unchanged, dropped, answered, counted, actIn, afterFinding, inputOf, restOf, step, run}
+use Rattle.bench.specs.Secrecy.{passwordsAt, EqualElsewhere, Hidden, Command, acceptedBy, accepted, carriesNone, noneCarries, SameCall, Throughout}
+use Rattle.bench.specs.declared.outcome.Outcome.{Outcome}
+use Rattle.bench.specs.declared.outcome.Outcome.the-variants.{Answered, PastEnd, BadImage, ShortOutput, FullTally}
+use Rattle.bench.specs.declared.tally.Tally.{Tally}
+use Rattle.crc.specs.Crc.{tagCrc}
+use Rattle.frame.proofs.Accepting.{Accepted, accepted as accepting}
+use Rattle.frame.proofs.Picks.{pick-true, pick-false}
+use Rattle.frame.proofs.Stores.{take-sets, drop-sets, byte-sets-before, number-sets-before}
+use Rattle.frame.proofs.Tests.{either, and-left, and-right, and-both}
+use Rattle.frame.specs.Bytes.{pick, all, number, double, part, twoBytes}
+use Rattle.frame.specs.Finding.{find, codeIn, parametersIn}
+use Rattle.frame.specs.Frames.{frameOf, frameLength, longestAnswer, written}
+use Rattle.frame.specs.declared.finding.Found.{Found}
+use Rattle.frame.specs.declared.finding.Found.the-variants.{End, Drop, Wait, Accept}
+use Rattle.tag.proofs.GoodImages.{Good, good-facts}
+use Rattle.tag.proofs.StaysGood.{stays-good}
+use Rattle.tag.specs.Answers.{pcAndEpc, tail, answer, changed}
+use Rattle.tag.specs.Commands.{passwordIn, dataIn, actOf}
+use Rattle.tag.specs.Image.{good, view, bankAt, rssi, killPassword, accessPassword}
+use Rattle.tag.specs.declared.commands.Act.{Act}
+use Rattle.tag.specs.declared.image.View.{View}
+use Rattle.tag.specs.declared.commands.Act.the-variants.{PlainError, TagError, Notify, Give, Store, SetLocks, SetKilled}
+
+-- ---- a store behind the passwords
+
+double-sets-before : (l : List ℕ) (i : ℕ) (vs : List ℕ) (j : ℕ) → j + 3 < i → double (sets l i vs) j ≡ double l j
+unfolding double
+double-sets-before l i vs j h = simp (number-sets-before l i vs j (omega arith), number-sets-before l i vs (j + 2) (omega arith))
+
+part-sets-before : (l : List ℕ) (i : ℕ) (vs : List ℕ) (j n : ℕ) → j + n ≤ i → part (sets l i vs) j n ≡ part l j n
+unfolding part
+part-sets-before l i vs j n h =
+    let k : j + (i - j) ≡ i = omega arith in
+    ap (λ (m : ℕ). take n (drop j (sets l m vs))) (sym k)
+    ∙ ap (λ (t : List ℕ). take n t) (drop-sets j l (i - j) vs)
+    ∙ take-sets n (drop j l) (i - j) vs (omega arith)
+
+drop-sets-from : (n : ℕ) (l : List ℕ) (i : ℕ) (vs : List ℕ) → n ≤ i → drop n (sets l i vs) ≡ sets (drop n l) (i - n) vs
+drop-sets-from n l i vs h =
+    let k : n + (i - n) ≡ i = omega arith in
+    ap (λ (m : ℕ). drop n (sets l m vs)) (sym k) ∙ drop-sets n l (i - n) vs
+
+-- one image of the pair in the course of a run, with its password bytes
+record Course (a x : List ℕ) : Type 0 where
+  kept : Kept a x
+  bytes : part x (passwordsAt a) 8 ≡ part a (passwordsAt a) 8
+
+course-stored : (a x : List ℕ) → Course a x → (at : ℕ) (vs : List ℕ) → passwordsAt x + 8 ≤ at → good (sets x at vs) ≡ true → Course a (sets x at vs)
+unfolding passwordsAt killPassword accessPassword view bankAt
+course-stored a x k at vs behind h =
+    let g : Good (view x) = good-facts x (k .kept .image-good) in
+    let far : 24 ≤ at = omega (arith, g .reserved-place) in
+    let place : number (sets x at vs) 6 ≡ number x 6 = number-sets-before x at vs 6 (omega arith) in
+    record {
+      kept =
+          record {
+            image-good = h;
+            place = place ∙ k .kept .place;
+            kill = ap (λ (n : ℕ). double (sets x at vs) n) place ∙ double-sets-before x at vs (number x 6) (omega arith) ∙ k .kept .kill;
+            access =
+                ap (λ (n : ℕ). double (sets x at vs) (n + 4)) place ∙ double-sets-before x at vs (number x 6 + 4) (omega arith) ∙ k .kept .access;
+            locks = number-sets-before x at vs 20 (omega arith) ∙ k .kept .locks;
+          };
+      bytes = part-sets-before x at vs (passwordsAt a) 8 (omega (arith, k .kept .place)) ∙ k .bytes;
+    }
+
+elsewhere-stored : (p : ℕ) (x y : List ℕ) → EqualElsewhere p x y → (at : ℕ) (vs : List ℕ) → p + 8 ≤ at → EqualElsewhere p (sets x at vs) (sets y at vs)
+elsewhere-stored p x y e at vs h =
+    record {
+      before = take-sets p x at vs (omega arith) ∙ e .before ∙ sym (take-sets p y at vs (omega arith));
+      behind =
+          drop-sets-from (p + 8) x at vs h
+          ∙ ap (λ (l : List ℕ). sets l (at - (p + 8)) vs) (e .behind)
+          ∙ sym (drop-sets-from (p + 8) y at vs h);
+    }
+
+-- ---- the two images together
+
+record Pair (a b x y : List ℕ) : Type 0 where
+  first : Course a x
+  second : Course b y
+  elsewhere : EqualElsewhere (passwordsAt a) x y
+
+module _ (a b x y : List ℕ) (t : Pair a b x y) where
+  gx : Good (view x)
+  gx = good-facts x (t .first .kept .image-good)
+
+  gy : Good (view y)
+  gy = good-facts y (t .second .kept .image-good)
+
+  sight : view x ≡ view y
+  sight = same-view (passwordsAt a) x y (t .elsewhere) (t .first .kept .place) gx gy
+
+  -- an act that touches no password is answered alike
+  same-answer : (act : Act) → Public (view x) act → answer x act ≡ answer y act
+  unfolding answer passwordsAt
+  same-answer (PlainError e) p = refl
+  same-answer (TagError e) p = ap (λ (l : List ℕ). frameOf 0x01 0xFF (e ∷ l)) (same-tail (passwordsAt a) x y (t .elsewhere) (t .first .kept .place) gx gy)
+  same-answer Notify p =
+      ap₂ (λ (r : ℕ) (l : List ℕ). frameOf 0x02 0x22 (r ∷ (l ++ twoBytes (tagCrc l))))
+      (same-rssi (passwordsAt a) x y (t .elsewhere) (t .first .kept .place) gx gy)
+      (same-epc (passwordsAt a) x y (t .elsewhere) (t .first .kept .place) gx gy)
+  same-answer (Give at n) p =
+      ap₂ (λ (l m : List ℕ). frameOf 0x01 0x39 (l ++ m)) (same-tail (passwordsAt a) x y (t .elsewhere) (t .first .kept .place) gx gy)
+      (part-behind (passwordsAt a) x y (t .elsewhere) at n (omega (arith, t .first .kept .place)))
+  same-answer (Store at) p =
+      ap (λ (l : List ℕ). frameOf 0x01 0x49 (l ++ (0x00 ∷ []))) (same-tail (passwordsAt a) x y (t .elsewhere) (t .first .kept .place) gx gy)
+  same-answer (SetLocks bits) p = absurd p
+  same-answer SetKilled p = absurd p
+
+  -- and leaves the pair a pair
+  pair-after : (q : List ℕ) (act : Act) → Public (view x) act → good (changed x q act) ≡ true → good (changed y q act) ≡ true
+      → Pair a b (changed x q act) (changed y q act)
+  unfolding changed passwordsAt
+  pair-after q (PlainError e) p hx hy = t
+  pair-after q (TagError e) p hx hy = t
+  pair-after q Notify p hx hy = t
+  pair-after q (Give at n) p hx hy = t
+  pair-after q (Store at) p hx hy =
+      record {
+        first = course-stored a x (t .first) at (dataIn q) p hx;
+        second =
+            course-stored b y (t .second) at (dataIn q) (subst (λ (v : View). v .reserved .offset + 8 ≤ at) sight p) hy;
+        elsewhere = elsewhere-stored (passwordsAt a) x y (t .elsewhere) at (dataIn q) (omega (arith, t .first .kept .place));
+      }
+  pair-after q (SetLocks bits) p hx hy = absurd p
+  pair-after q SetKilled p hx hy = absurd p
+
+-- ---- one step
+
+-- the state with another image
+abbrev swap : State → List ℕ → State
+swap s image = record { image = image; output = s .output; cursor = s .cursor; tally = s .tally }
+
+record Alike (a b : List ℕ) (x y : Step) : Type 0 where
+  outcome : x .outcome ≡ y .outcome
+  length : x .length ≡ y .length
+  output : x .next .output ≡ y .next .output
+  cursor : x .next .cursor ≡ y .next .cursor
+  tally : x .next .tally ≡ y .next .tally
+  pair : Pair a b (x .next .image) (y .next .image)
+
+-- a call is refused by the same test whatever good image stands in the state, or it is refused by none
+refused-or-ready : (c : Call) (s : State)
+    → ((o : Outcome) × ((j : List ℕ) → good j ≡ good (s .image) → step c (swap s j) ≡ unchanged (swap s j) o)) ⊎ Ready c s
+unfolding step longestAnswer inputOf
+refused-or-ready c s =
+    either (ltb (length (inputOf c)) (s .cursor)) (λ past. inl (PastEnd, λ j e. simp (past, pick-true))) λ not-past.
+    either (not (good (s .image))) (λ bad. inl (BadImage, λ j e. simp (not-past, e, bad, pick-true, pick-false))) λ fine.
+    either (ltb (length (s .output)) 136)
+    (λ short. inl (ShortOutput, λ j e. simp (not-past, e, fine, short, pick-true, pick-false)))
+    λ room.
+    either (full (s .tally))
+    (λ full. inl (FullTally, λ j e. simp (not-past, e, fine, room, full, pick-true, pick-false)))
+    λ not-full.
+    inr
+    record {
+      not-past = ltb-false (length (inputOf c)) (s .cursor) not-past;
+      image-good = not-false (good (s .image)) fine;
+      room = ltb-false (length (s .output)) 136 room;
+      not-full = not-full;
+    }
+
+module _ (a b : List ℕ) (ha : Hidden a) (hb : Hidden b) (s : State) (j : List ℕ) (t : Pair a b (s .image) j) where
+  unchanged-alike : (o : Outcome) → Alike a b (unchanged s o) (unchanged (swap s j) o)
+  unfolding unchanged
+  unchanged-alike o = record { outcome = refl; length = refl; output = refl; cursor = refl; tally = refl; pair = t }
+
+  dropped-alike : Alike a b (dropped s) (dropped (swap s j))
+  unfolding dropped
+  dropped-alike = record { outcome = refl; length = refl; output = refl; cursor = refl; tally = refl; pair = t }
+
+  answered-alike : (rest : List ℕ) (pl : ℕ) → carriesNone a b record { code = codeIn rest; parameters = parametersIn rest } ≡ true
+      → Alike a b (answered s rest pl (actIn s rest)) (answered (swap s j) rest pl (actIn (swap s j) rest))
+  unfolding answered actIn
+  answered-alike rest pl quiet =
+      let x : List ℕ = s .image in
+      let p : List ℕ = parametersIn rest in
+      let code : ℕ = codeIn rest in
+      let secrets = untold a b record { code = code; parameters = p } quiet in
+      let open-act : Public (view x) (actOf x code p) = public-act a x ha (t .first .kept) p code (secrets .0) in
+      let same : actOf x code p ≡ actOf j code p =
+      same-act a b x j ha hb (t .first .kept) (t .second .kept) (sight a b x j t) p code (secrets .0) (secrets .1)
+      in
+      let frames : answer x (actOf x code p) ≡ answer j (actOf j code p) =
+      same-answer a b x j t (actOf x code p) open-act ∙ ap (answer j) same
+      in
+      record {
+        outcome = refl;
+        length = ap (λ (l : List ℕ). length l) frames;
+        output = ap (λ (l : List ℕ). written l (s .output)) frames;
+        cursor = refl;
+        tally = ap (λ (act : Act). counted act (s .tally)) same;
+        pair =
+            subst (λ (act : Act). Pair a b (changed x p (actOf x code p)) (changed j p act)) same
+            (pair-after a b x j t p (actOf x code p) open-act (stays-good x p code (t .first .kept .image-good))
+            (subst (λ (act : Act). good (changed j p act) ≡ true) (sym same) (stays-good j p code (t .second .kept .image-good))));
+      }
+
+  found-alike : (rest : List ℕ) (f : Found) → ((pl : ℕ) → f ≡ Accept pl → carriesNone a b record { code = codeIn rest; parameters = parametersIn rest } ≡ true)
+      → Alike a b (afterFinding s rest f) (afterFinding (swap s j) rest f)
+  unfolding afterFinding
+  found-alike rest End quiet = unchanged-alike _
+  found-alike rest Drop quiet = dropped-alike
+  found-alike rest Wait quiet = unchanged-alike _
+  found-alike rest (Accept pl) quiet = answered-alike rest pl (quiet pl refl)
+
+  -- a command that finding accepts in a call that is not refused is among those accepted
+  accepts : (c : Call) → Ready c s → (pl : ℕ) → find (restOf c s) ≡ Accept pl
+      → acceptedBy c s ≡ record { code = codeIn (restOf c s); parameters = parametersIn (restOf c s) } ∷ []
+  unfolding acceptedBy afterFinding answered numberOf
+  accepts c r pl e = simp (step-ready c s r, e, pick-true)
+
+  step-alike : (c : Call) → noneCarries a b (acceptedBy c s) ≡ true → Alike a b (step c s) (step c (swap s j))
+  unfolding noneCarries all restOf
+  step-alike c quiet =
+      let gj : good j ≡ good (s .image) = t .second .kept .image-good ∙ sym (t .first .kept .image-good) in
+      ⊎-elim
+      (λ refused.
+      subst (λ (x : Step). Alike a b x (step c (swap s j))) (sym (refused .1 (s .image) refl))
+      (subst (λ (y : Step). Alike a b (unchanged s (refused .0)) y) (sym (refused .1 j gj)) (unchanged-alike (refused .0))))
+      (λ r.
+      let rj : Ready c (swap s j) =
+      record { not-past = r .not-past; image-good = t .second .kept .image-good; room = r .room; not-full = r .not-full }
+      in
+      subst (λ (x : Step). Alike a b x (step c (swap s j))) (sym (step-ready c s r))
+      (subst (λ (y : Step). Alike a b (afterFinding s (restOf c s) (find (restOf c s))) y) (sym (step-ready c (swap s j) rj))
+      (found-alike (restOf c s) (find (restOf c s))
+      (λ pl e. and-left _ (all []) (subst (λ (l : List Command). noneCarries a b l ≡ true) (accepts c r pl e) quiet)))))
+      (refused-or-ready c s)
+
+-- ---- the run
+
+none-append : (a b : List ℕ) (xs ys : List Command) → noneCarries a b (xs ++ ys) ≡ true → (noneCarries a b xs ≡ true) × (noneCarries a b ys ≡ true)
+unfolding noneCarries all
+none-append a b [] ys h = (refl, h)
+none-append a b (x ∷ xs) ys h =
+    let rest : (noneCarries a b xs ≡ true) × (noneCarries a b ys ≡ true) =
+    none-append a b xs ys (and-right (carriesNone a b x) (noneCarries a b (xs ++ ys)) h)
+    in
+    (and-both (carriesNone a b x) (noneCarries a b xs) (and-left (carriesNone a b x) (noneCarries a b (xs ++ ys)) h) (rest .0), rest .1)
+
+same-call : (a b : List ℕ) (x y : Step) → Alike a b x y → SameCall a b x y
+same-call a b x y l =
+    record {
+      same-number = ap numberOf (l .outcome);
+      same-length = l .length;
+      same-output = l .output;
+      same-cursor = l .cursor;
+      same-counts = l .tally;
+      first-kept = l .pair .first .bytes;
+      second-kept = l .pair .second .bytes;
+      same-elsewhere = l .pair .elsewhere;
+    }
+
+swapped : (a b : List ℕ) (x y : Step) → Alike a b x y → swap (x .next) (y .next .image) ≡ y .next
+swapped a b x y l = λ i. record { image = y .next .image; output = l .output i; cursor = l .cursor i; tally = l .tally i }
+
+same-runs : (a b : List ℕ) → Hidden a → Hidden b → (calls : List Call) (s : State) (j : List ℕ) → Pair a b (s .image) j
+    → noneCarries a b (accepted calls s) ≡ true → Throughout (SameCall a b) (run calls s) (run calls (swap s j))
+unfolding run accepted
+same-runs a b ha hb [] s j t quiet = tt
+same-runs a b ha hb (c ∷ calls) s j t quiet =
+    let quiets = none-append a b (acceptedBy c s) (accepted calls (step c s .next)) quiet in
+    let l : Alike a b (step c s) (step c (swap s j)) = step-alike a b ha hb s j t c (quiets .0) in (
+      same-call a b (step c s) (step c (swap s j)) l,
+      subst (λ (n : State). Throughout (SameCall a b) (run calls (step c s .next)) (run calls n)) (swapped a b _ _ l)
+          (same-runs a b ha hb calls (step c s .next) (step c (swap s j) .next .image) (l .pair) (quiets .1)),
+    )
+
+pub demand3 : Demand3
+unfolding passwordsAt
+demand3 a b output cursor tally calls pre =
+    same-runs a b (pre .first-hidden) (pre .second-hidden) calls (start a output cursor tally) b
+    record {
+      first =
+          record { kept = record { image-good = pre .first-good; place = refl; kill = refl; access = refl; locks = refl }; bytes = refl };
+      second =
+          record { kept = record { image-good = pre .second-good; place = refl; kill = refl; access = refl; locks = refl }; bytes = refl };
+      elsewhere = pre .differ-only;
+    }
+    (pre .first-run)

@@ -1,0 +1,111 @@
+-- Document 01's tables: lock pairs, regions, standings, new pairs, and the permalock rule.
+use Prim.Native.Nat.{ℕ, _+_, _*_, _/_, _%_, _≤_, _<_}
+use borrow.Author.Tests.{eq-eqb, ne-eqb, eqb-true, lt-ltb, not-false}
+use lib.Dec.{eqb, ltb}
+use mathlib.Core.Bool.{Bool, true, false, not, _&&_, _||_}
+use mathlib.Core.List.{List}
+use mathlib.Core.Logic.{_≢_}
+use mathlib.Core.Path.{_≡_, refl, ap, sym, _∙_}
+use native.Mathlib.Nat.{div-div-eq-div-mul}
+use native.Mathlib.Omega.{arith}
+use Rattle.bench.proofs.Effects.{lock-keeps}
+use Rattle.bench.specs.Claims.{PairBits, LockTable, Regions, RangeBeforeLock, Standings, NewPair, Permalocks, PermalockRule, isGood}
+use Rattle.bench.specs.Machine.{State, Call, step, restOf, actIn}
+use Rattle.frame.proofs.Picks.{pick-true, pick-false}
+use Rattle.frame.proofs.Tests.{and-second, and-true, or-neither}
+use Rattle.frame.specs.Bytes.{pick}
+use Rattle.frame.specs.Finding.{codeIn, parametersIn}
+use Rattle.tag.proofs.Cases.{Locks, act-cases}
+use Rattle.tag.specs.Answers as Answers
+use Rattle.tag.specs.Commands.{ldIn, actOf, gone, outside, readVerdict, writeVerdict}
+use Rattle.tag.specs.Image.{view, bankOf}
+use Rattle.tag.specs.Locks.{pairs, permalocked, standingOf, isSecured, isWrong, allows, touches, mayTouchPasswords, mayRead, mayWrite, newBit, newPair, newPairs, breaks, breaksPermalock}
+use Rattle.tag.specs.declared.commands.Act.{Act}
+use Rattle.tag.specs.declared.image.View.{View}
+use Rattle.tag.specs.declared.locks.Pairs.{Pairs}
+use Rattle.tag.specs.declared.locks.Standing.{Standing}
+
+-- a pair is its two bits; k is half the weight of the upper one
+two-bits : (n k : ℕ) → 0 < k → n / k % 4 ≡ 2 * (n / (k * 2) % 2) + n / k % 2
+two-bits n k pos = omega (arith, sym (div-div-eq-div-mul n k 2))
+
+lowest-bits : (n : ℕ) → n % 4 ≡ 2 * (n / 2 % 2) + n / 1 % 2
+lowest-bits n = omega arith
+
+pub pair-bits : PairBits
+unfolding pairs
+pair-bits n =
+    let kill : n / 256 % 4 ≡ 2 * (n / 512 % 2) + n / 256 % 2 = two-bits n 256 (omega arith) in
+    let access : n / 64 % 4 ≡ 2 * (n / 128 % 2) + n / 64 % 2 = two-bits n 64 (omega arith) in
+    let epc : n / 16 % 4 ≡ 2 * (n / 32 % 2) + n / 16 % 2 = two-bits n 16 (omega arith) in
+    let tid : n / 4 % 4 ≡ 2 * (n / 8 % 2) + n / 4 % 2 = two-bits n 4 (omega arith) in
+    let user : n % 4 ≡ 2 * (n / 2 % 2) + n / 1 % 2 = lowest-bits n in
+    λ i. record { kill = kill i; access = access i; epc = epc i; tid = tid i; user = user i }
+
+pub lock-table : LockTable
+unfolding allows pick isSecured
+lock-table =
+    record { free-00 = λ s. refl; free-01 = λ s. refl; secured-10 = refl; open-10 = refl; wrong-10 = refl; never-11 = λ s. refl }
+
+pub regions : (v : View) (s : Standing) (pointer n : ℕ) → Regions v s pointer n
+unfolding mayRead mayWrite mayTouchPasswords touches pick
+regions v s pointer n =
+    record {
+      passwords-read = λ some most. simp (lt-ltb 0 (pointer + n) (omega arith), lt-ltb pointer 4 (omega arith), and-true);
+      passwords-write = λ some most. simp (lt-ltb 0 (pointer + n) (omega arith), lt-ltb pointer 4 (omega arith), and-true);
+      epc-read = refl;
+      tid-read = refl;
+      user-read = refl;
+      epc-write = refl;
+      tid-write = refl;
+      user-write = refl;
+    }
+
+pub range-before-lock : (v : View) (s : Standing) (bank pointer n : ℕ) (words : List ℕ) → RangeBeforeLock v s bank pointer n words
+unfolding readVerdict writeVerdict outside
+range-before-lock v s bank pointer n words =
+    record {
+      read = λ g w far. simp (g, w, lt-ltb _ _ far, pick-true, pick-false);
+      write = λ g w far. simp (g, w, lt-ltb _ _ far, pick-true, pick-false);
+    }
+
+pub standings : (stored given : ℕ) → Standings stored given
+unfolding standingOf
+standings stored given =
+    record {
+      both-zero = simp (pick-true);
+      equal = λ n. simp (ne-eqb given 0 n, eq-eqb given given refl, pick-true, pick-false);
+      differs = λ n d. simp (ne-eqb given 0 n, ne-eqb given stored d, pick-false);
+      zero-given = λ n. simp (ne-eqb stored 0 n, pick-true, pick-false);
+    }
+
+pub new-pair : (action old : ℕ) → NewPair action old
+unfolding newPair newBit pick
+new-pair action old = record { masked-00 = omega arith; masked-01 = omega arith; masked-10 = omega arith; masked-11 = omega arith }
+
+-- a pair that is not broken, with its permalock bit set, is the old one
+unbroken : (old new : ℕ) → breaks old new ≡ false → old % 2 ≡ 1 → new ≡ old
+unfolding breaks permalocked
+unbroken old new h set = eqb-true _ _ (not-false _ (and-second (eqb (old % 2) 1) (not (eqb new old)) (eq-eqb _ _ set) h))
+
+permalocks : (old new : Pairs) → breaksPermalock old new ≡ false → Permalocks old new
+unfolding breaksPermalock
+permalocks old new h =
+    let kill : Bool = breaks (old .kill) (new .kill) in
+    let access : Bool = breaks (old .access) (new .access) in
+    let epc : Bool = breaks (old .epc) (new .epc) in
+    let tid : Bool = breaks (old .tid) (new .tid) in
+    let last : ((kill || access || epc || tid) ≡ false) × (breaks (old .user) (new .user) ≡ false) = or-neither _ _ h in
+    let fourth : ((kill || access || epc) ≡ false) × (tid ≡ false) = or-neither _ _ (last .0) in
+    let third : ((kill || access) ≡ false) × (epc ≡ false) = or-neither _ _ (fourth .0) in
+    let second : (kill ≡ false) × (access ≡ false) = or-neither _ _ (third .0) in
+    record {
+      kill = unbroken _ _ (second .0);
+      access = unbroken _ _ (second .1);
+      epc = unbroken _ _ (third .1);
+      tid = unbroken _ _ (fourth .1);
+      user = unbroken _ _ (last .1);
+    }
+
+pub permalock-rule : PermalockRule
+permalock-rule c s code good = permalocks _ _ (lock-keeps c s code .1 good)
