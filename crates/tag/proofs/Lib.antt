@@ -1,4 +1,4 @@
 pub mod Banks
 pub mod Data
-pub mod Regions
+pub mod Reach
 pub mod Tests

@@ -1,7 +1,7 @@
 -- `breaks_permalock` meets its contract: one pair that breaks its permalock is enough.
+use borrow.Author.Needs.{needs}
 use Rattle.tag.proofs.Tests.{holds, fails, or-true}
 use Rattle.tag.specs.Locks.{breaksPermalock}
-use borrow.Author.Needs.{needs}
 use Rattle.tag.proofs.relocks.breaks_permalock.Statement.{statement}
 use Rattle.tag.proofs.relocks.breaks_permalock.Tie as tie
 
@@ -38,7 +38,18 @@ breaks-pair-requires-5 c κs = search needs
 
 returns-5 : tie.Need-returns-5
 unfolding breaksPermalock
-returns-5 c = simp (fails (c .before .before .before .before .before .before .before .if1 .left) (c .before .before .before .before .before .before .before .before .breaks-pair .ensures), fails (c .before .before .before .before .before .if2 .left) (c .before .before .before .before .before .before .breaks-pair2 .ensures), fails (c .before .before .before .if3 .left) (c .before .before .before .before .breaks-pair3 .ensures), fails (c .before .if4 .left) (c .before .before .breaks-pair4 .ensures), c .breaks-pair5 .ensures)
+returns-5 c =
+    let past4 = c .before in
+    let past3 = past4 .before .before in
+    let past2 = past3 .before .before in
+    let past1 = past2 .before .before in
+    simp (
+      fails (past1 .if1 .left) (past1 .before .breaks-pair .ensures),
+      fails (past2 .if2 .left) (past2 .before .breaks-pair2 .ensures),
+      fails (past3 .if3 .left) (past3 .before .breaks-pair3 .ensures),
+      fails (past4 .if4 .left) (past4 .before .breaks-pair4 .ensures),
+      c .breaks-pair5 .ensures,
+    )
 
 pub breaks-permalock-spec : {M : Type 1} → statement M
 breaks-permalock-spec =

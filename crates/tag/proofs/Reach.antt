@@ -1,4 +1,5 @@
--- Laws of the words that a command reaches, tested without a sum that could wrap: which it touches, and whether they are in their bank.
+-- Laws of the words that a command reaches, tested without a sum that could wrap: which regions they touch, and whether they
+-- are in their bank.
 use Prim.Native.Nat.{ℕ, _+_, _-_, _<_, _≤_}
 use mathlib.Core.Bool.{true, false}
 use mathlib.Core.Path.{_≡_, sym}
@@ -45,7 +46,11 @@ pub record Near (v : View) (bank pointer count : ℕ) : Type 0 where
   pub span-near : pointer + count < 65536
   pub offset-near : bankOf v bank .offset < 65536
 
-pub inside-near : (v : View) (bank pointer count : ℕ) → Small v → outside v bank pointer count ≡ false → Near v bank pointer count
+pub inside-near :
+    (v : View) (bank pointer count : ℕ)
+    → Small v
+    → outside v bank pointer count ≡ false
+    → Near v bank pointer count
 unfolding outside
 inside-near v bank pointer count s e =
     let small = small-bank v bank s in

@@ -1,8 +1,8 @@
 -- `may_touch` meets its contract: a region that is not touched lets every command through.
-use Rattle.tag.proofs.Tests.{holds, fails}
 use borrow.Author.Needs.{needs}
-use Rattle.tag.proofs.locks.may_touch.Statement.{statement}
-use Rattle.tag.proofs.locks.may_touch.Tie as tie
+use Rattle.tag.proofs.Tests.{holds, fails}
+use Rattle.tag.proofs.regions.may_touch.Statement.{statement}
+use Rattle.tag.proofs.regions.may_touch.Tie as tie
 
 touches-from-requires : tie.Need-touches-from-requires
 touches-from-requires c κs = search needs
