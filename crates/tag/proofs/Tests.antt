@@ -4,9 +4,6 @@ use mathlib.Core.Path.{_≡_, refl, sym, _∙_}
 use borrow.Author.Tests.{not-true, not-false}
 
 -- `answer` is a function's, `test` what it is promised to equal
-pub holds : {answer test : Bool} → answer ≡ true → answer ≡ test → test ≡ true
-holds a e = sym e ∙ a
-
 pub fails : {answer test : Bool} → answer ≡ false → answer ≡ test → test ≡ false
 fails a e = sym e ∙ a
 

@@ -1,6 +1,6 @@
 -- `breaks_permalock` meets its contract: one pair that breaks its permalock is enough.
 use borrow.Author.Needs.{needs}
-use Rattle.tag.proofs.Tests.{holds, fails, or-true}
+use Rattle.tag.proofs.Tests.{or-true}
 use Rattle.tag.specs.Locks.{breaksPermalock}
 use Rattle.tag.proofs.relocks.breaks_permalock.Statement.{statement}
 use Rattle.tag.proofs.relocks.breaks_permalock.Tie as tie
@@ -10,28 +10,28 @@ breaks-pair-requires c κs = search needs
 
 returns : tie.Need-returns
 unfolding breaksPermalock
-returns c = simp (holds (c .if1 .taken) (c .before .breaks-pair .ensures))
+returns c = simp (← (c .before .breaks-pair .ensures), c .if1 .taken)
 
 breaks-pair-requires-2 : tie.Need-breaks-pair-requires-2
 breaks-pair-requires-2 c κs = search needs
 
 returns-2 : tie.Need-returns-2
 unfolding breaksPermalock
-returns-2 c = simp (holds (c .if2 .taken) (c .before .breaks-pair2 .ensures), or-true)
+returns-2 c = simp (← (c .before .breaks-pair2 .ensures), c .if2 .taken, or-true)
 
 breaks-pair-requires-3 : tie.Need-breaks-pair-requires-3
 breaks-pair-requires-3 c κs = search needs
 
 returns-3 : tie.Need-returns-3
 unfolding breaksPermalock
-returns-3 c = simp (holds (c .if3 .taken) (c .before .breaks-pair3 .ensures), or-true)
+returns-3 c = simp (← (c .before .breaks-pair3 .ensures), c .if3 .taken, or-true)
 
 breaks-pair-requires-4 : tie.Need-breaks-pair-requires-4
 breaks-pair-requires-4 c κs = search needs
 
 returns-4 : tie.Need-returns-4
 unfolding breaksPermalock
-returns-4 c = simp (holds (c .if4 .taken) (c .before .breaks-pair4 .ensures), or-true)
+returns-4 c = simp (← (c .before .breaks-pair4 .ensures), c .if4 .taken, or-true)
 
 breaks-pair-requires-5 : tie.Need-breaks-pair-requires-5
 breaks-pair-requires-5 c κs = search needs
@@ -44,10 +44,14 @@ returns-5 c =
     let past2 = past3 .before .before in
     let past1 = past2 .before .before in
     simp (
-      fails (past1 .if1 .left) (past1 .before .breaks-pair .ensures),
-      fails (past2 .if2 .left) (past2 .before .breaks-pair2 .ensures),
-      fails (past3 .if3 .left) (past3 .before .breaks-pair3 .ensures),
-      fails (past4 .if4 .left) (past4 .before .breaks-pair4 .ensures),
+      ← (past1 .before .breaks-pair .ensures),
+      past1 .if1 .left,
+      ← (past2 .before .breaks-pair2 .ensures),
+      past2 .if2 .left,
+      ← (past3 .before .breaks-pair3 .ensures),
+      past3 .if3 .left,
+      ← (past4 .before .breaks-pair4 .ensures),
+      past4 .if4 .left,
       c .breaks-pair5 .ensures,
     )
 

@@ -2,7 +2,6 @@
 use borrow.Author.Needs.{needs}
 use borrow.Author.Tests.{eq-eqb, ne-eqb}
 use Rattle.frame.proofs.Picks.{pick-true, pick-false}
-use Rattle.tag.proofs.Tests.{holds, fails, not-holds, not-fails}
 use Rattle.tag.specs.Commands.{gone, lockVerdict}
 use Rattle.tag.proofs.verdicts.lock_verdict.Statement.{statement}
 use Rattle.tag.proofs.verdicts.lock_verdict.Tie as tie
@@ -19,7 +18,8 @@ unfolding lockVerdict gone
 returns-2 c =
     simp (
       eq-eqb _ _ (c .before .before .if1 .left),
-      holds (c .if2 .taken) (c .before .is-wrong .ensures),
+      ← (c .before .is-wrong .ensures),
+      c .if2 .taken,
       pick-true,
       pick-false,
     )
@@ -34,8 +34,10 @@ returns-3 c =
     let past1 = past2 .before .before in
     simp (
       eq-eqb _ _ (past1 .if1 .left),
-      fails (past2 .if2 .left) (past2 .before .is-wrong .ensures),
-      not-holds (c .if3 .taken) (c .before .is-secured .ensures),
+      ← (past2 .before .is-wrong .ensures),
+      past2 .if2 .left,
+      ← (c .before .is-secured .ensures),
+      c .if3 .taken,
       pick-true,
       pick-false,
     )
@@ -54,10 +56,13 @@ returns-4 c =
     let past1 = past2 .before .before in
     simp (
       eq-eqb _ _ (past1 .if1 .left),
-      fails (past2 .if2 .left) (past2 .before .is-wrong .ensures),
-      not-fails (past3 .if3 .left) (past3 .before .is-secured .ensures),
+      ← (past2 .before .is-wrong .ensures),
+      past2 .if2 .left,
+      ← (past3 .before .is-secured .ensures),
+      past3 .if3 .left,
       ← (c .before .before .pairs-of .ensures .0),
-      holds (c .if4 .taken) (c .before .misses-user .ensures),
+      ← (c .before .misses-user .ensures),
+      c .if4 .taken,
       pick-true,
       pick-false,
     )
@@ -83,14 +88,18 @@ returns-5 c =
     let past1 = past2 .before .before in
     simp (
       eq-eqb _ _ (past1 .if1 .left),
-      fails (past2 .if2 .left) (past2 .before .is-wrong .ensures),
-      not-fails (past3 .if3 .left) (past3 .before .is-secured .ensures),
+      ← (past2 .before .is-wrong .ensures),
+      past2 .if2 .left,
+      ← (past3 .before .is-secured .ensures),
+      past3 .if3 .left,
       ← (past4 .before .before .pairs-of .ensures .0),
-      fails (past4 .if4 .left) (past4 .before .misses-user .ensures),
+      ← (past4 .before .misses-user .ensures),
+      past4 .if4 .left,
       ← (c .before .before .before .before .pairs-of2 .ensures .0),
       ← (c .before .before .before .pairs-of3 .ensures .0),
       ← (c .before .before .new-pairs .ensures .0),
-      holds (c .if5 .taken) (c .before .breaks-permalock .ensures),
+      ← (c .before .breaks-permalock .ensures),
+      c .if5 .taken,
       pick-true,
       pick-false,
     )
@@ -108,14 +117,18 @@ returns-6 c =
     let past1 = past2 .before .before in
     simp (
       eq-eqb _ _ (past1 .if1 .left),
-      fails (past2 .if2 .left) (past2 .before .is-wrong .ensures),
-      not-fails (past3 .if3 .left) (past3 .before .is-secured .ensures),
+      ← (past2 .before .is-wrong .ensures),
+      past2 .if2 .left,
+      ← (past3 .before .is-secured .ensures),
+      past3 .if3 .left,
       ← (past4 .before .before .pairs-of .ensures .0),
-      fails (past4 .if4 .left) (past4 .before .misses-user .ensures),
+      ← (past4 .before .misses-user .ensures),
+      past4 .if4 .left,
       ← (past5 .before .before .before .before .pairs-of2 .ensures .0),
       ← (past5 .before .before .before .pairs-of3 .ensures .0),
       ← (past5 .before .before .new-pairs .ensures .0),
-      fails (past5 .if5 .left) (past5 .before .breaks-permalock .ensures),
+      ← (past5 .before .breaks-permalock .ensures),
+      past5 .if5 .left,
       pick-false,
       c .bits-of .ensures,
     )
