@@ -1,13 +1,12 @@
 -- Laws of the words that a command reaches, tested without a sum that could wrap: which regions they touch, and whether they
 -- are in their bank.
 use Prim.Native.Nat.{ℕ, _+_, _-_, _<_, _≤_}
-use mathlib.Core.Bool.{true, false}
+use mathlib.Core.Bool.{true, false, and-false}
 use mathlib.Core.Path.{_≡_, sym}
 use borrow.Author.Tests.{lt-ltb, le-ltb, ltb-false}
 use lib.Dec.{ltb}
 use native.Mathlib.Omega.{arith}
 use Rattle.tag.proofs.Banks.{small-bank}
-use Rattle.tag.proofs.Tests.{and-false}
 use Rattle.tag.specs.Bounds.{Small}
 use Rattle.tag.specs.Commands.{outside}
 use Rattle.tag.specs.Image.{bankOf}

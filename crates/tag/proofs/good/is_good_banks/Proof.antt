@@ -1,10 +1,11 @@
 -- `is_good_banks` meets its contract: one failed test is enough, and at the end all but the last hold.
 use borrow.Author.Needs.{needs}
 use borrow.Author.Tests.{lt-leb, ne-eqb}
+use mathlib.Core.Bool.{and-false}
 use mathlib.Core.Path.{_∙_}
 use Rattle.frame.specs.Bytes.{all}
 use Rattle.tag.proofs.Banks.{last-bank}
-use Rattle.tag.proofs.Tests.{and-false, not-holds, not-fails}
+use Rattle.tag.proofs.Tests.{not-holds, not-fails}
 use Rattle.tag.specs.Image.{goodBanks}
 use Rattle.tag.proofs.good.is_good_banks.Statement.{statement}
 use Rattle.tag.proofs.good.is_good_banks.Tie as tie

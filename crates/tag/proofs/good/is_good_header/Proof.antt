@@ -1,7 +1,7 @@
 -- `is_good_header` meets its contract: one failed test is enough, and at the end all hold.
 use borrow.Author.Tests.{le-leb, lt-leb, eq-eqb, ne-eqb}
+use mathlib.Core.Bool.{and-false}
 use Rattle.frame.specs.Bytes.{all}
-use Rattle.tag.proofs.Tests.{and-false}
 use Rattle.tag.specs.Image.{goodHeader}
 use Rattle.tag.proofs.good.is_good_header.Statement.{statement}
 use Rattle.tag.proofs.good.is_good_header.Tie as tie

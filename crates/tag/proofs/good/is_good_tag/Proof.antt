@@ -1,8 +1,8 @@
 -- `is_good_tag` meets its contract: one failed test is enough, and at the end all hold.
 use borrow.Author.Needs.{needs}
 use borrow.Author.Tests.{le-leb, lt-leb, lt-ltb, le-ltb}
+use mathlib.Core.Bool.{and-false}
 use Rattle.frame.specs.Bytes.{all}
-use Rattle.tag.proofs.Tests.{and-false}
 use Rattle.tag.specs.Image.{epcLength, goodTag}
 use Rattle.tag.proofs.good.is_good_tag.Statement.{statement}
 use Rattle.tag.proofs.good.is_good_tag.Tie as tie

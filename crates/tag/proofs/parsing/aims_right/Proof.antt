@@ -1,7 +1,7 @@
 -- `aims_right` meets its contract: one failed test is enough, and at the end all hold.
 use borrow.Author.Needs.{needs}
 use borrow.Author.Tests.{le-leb, lt-leb}
-use Rattle.tag.proofs.Tests.{and-false}
+use mathlib.Core.Bool.{and-false}
 use Rattle.tag.specs.Commands.{countIn, aimRight}
 use Rattle.tag.proofs.parsing.aims_right.Statement.{statement}
 use Rattle.tag.proofs.parsing.aims_right.Tie as tie

@@ -1,8 +1,8 @@
 -- `parse_lock` meets its contract: mask and action are the two halves of LD's twenty bits.
 use borrow.Author.Needs.{needs}
 use borrow.Author.Tests.{eq-eqb, ne-eqb, lt-ltb, le-ltb}
+use mathlib.Core.Bool.{and-false}
 use Rattle.frame.proofs.Picks.{pick-true, pick-false}
-use Rattle.tag.proofs.Tests.{and-false}
 use Rattle.tag.specs.Commands.{passwordIn, parseLock}
 use Rattle.tag.proofs.parsing.parse_lock.Statement.{statement}
 use Rattle.tag.proofs.parsing.parse_lock.Tie as tie

@@ -1,6 +1,6 @@
 -- `breaks_permalock` meets its contract: one pair that breaks its permalock is enough.
 use borrow.Author.Needs.{needs}
-use Rattle.tag.proofs.Tests.{or-true}
+use mathlib.Core.Bool.{or-true}
 use Rattle.tag.specs.Locks.{breaksPermalock}
 use Rattle.tag.proofs.relocks.breaks_permalock.Statement.{statement}
 use Rattle.tag.proofs.relocks.breaks_permalock.Tie as tie

@@ -2,9 +2,9 @@
 use Prim.Native.Nat.{_+_}
 use borrow.Author.Needs.{needs}
 use borrow.Author.Tests.{eq-eqb, ne-eqb, le-leb, lt-leb, lt-ltb, le-ltb}
+use mathlib.Core.Bool.{and-false}
 use native.Mathlib.Omega.{arith}
 use Rattle.tag.proofs.Data.{number-in-data}
-use Rattle.tag.proofs.Tests.{and-false}
 use Rattle.tag.specs.Commands.{lengthBroken}
 use Rattle.tag.specs.Image.{epcLength}
 use Rattle.tag.proofs.words.is_length_broken.Statement.{statement}
