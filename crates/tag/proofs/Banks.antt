@@ -1,13 +1,12 @@
 -- Laws of banks: their fields are two-byte numbers, when a bank ends by a limit, and the tests of a good image's banks.
 use Prim.Native.Nat.{ℕ, _+_, _*_, _-_, _/_, _<_, _≤_}
-use mathlib.Core.Bool.{true, false}
+use mathlib.Core.Bool.{true, false, and-true}
 use mathlib.Core.Path.{_≡_, sym}
 use Rattle.frame.proofs.Picks.{by-test}
 use Rattle.frame.specs.Bytes.{all}
 use borrow.Author.Tests.{le-leb, lt-leb, eq-eqb}
 use lib.Dec.{eqb, leb}
 use native.Mathlib.Omega.{arith}
-use Rattle.tag.proofs.Tests.{and-true}
 use Rattle.tag.specs.Bounds.{SmallBank, Small}
 use Rattle.tag.specs.Image.{bankOf, wordAt, endOf, goodBanks}
 use Rattle.tag.specs.declared.image.Bank.{Bank}

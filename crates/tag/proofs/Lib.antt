@@ -1,11 +1,11 @@
-pub mod Cases
 pub mod AnswerBytes
 pub mod Banks
+pub mod Cases
 pub mod Changes
 pub mod Data
 pub mod GoodImages
 pub mod LockPairs
 pub mod Places
-pub mod Regions
+pub mod Reach
 pub mod StaysGood
 pub mod Tests

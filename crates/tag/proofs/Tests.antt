@@ -1,12 +1,9 @@
--- Laws of tests: what a call's answer, tested by an `if`, says of the definition that it equals, and one failed test among several.
-use mathlib.Core.Bool.{Bool, true, false, not, _&&_, _||_}
-use mathlib.Core.Path.{_≡_, refl, sym, _∙_}
+-- What a call's answer, tested by an `if`, says of the definition that it equals.
+use mathlib.Core.Bool.{Bool, true, false, not}
+use mathlib.Core.Path.{_≡_, sym, _∙_}
 use borrow.Author.Tests.{not-true, not-false}
 
 -- `answer` is a function's, `test` what it is promised to equal
-pub holds : {answer test : Bool} → answer ≡ true → answer ≡ test → test ≡ true
-holds a e = sym e ∙ a
-
 pub fails : {answer test : Bool} → answer ≡ false → answer ≡ test → test ≡ false
 fails a e = sym e ∙ a
 
@@ -16,15 +13,3 @@ not-holds {answer = answer} a e = sym e ∙ not-true answer a
 
 pub not-fails : {answer test : Bool} → not answer ≡ false → answer ≡ test → test ≡ true
 not-fails {answer = answer} a e = sym e ∙ not-false answer a
-
-pub and-false : (a : Bool) → (a && false) ≡ false
-and-false true = refl
-and-false false = refl
-
-pub and-true : (a : Bool) → (a && true) ≡ a
-and-true true = refl
-and-true false = refl
-
-pub or-true : (a : Bool) → (a || true) ≡ true
-or-true true = refl
-or-true false = refl

@@ -3,7 +3,7 @@ use frame::bytes;
 ghost use mathlib.Core.Path.{_≡_};
 ghost use Prim.Native.Nat.{_<_};
 ghost use Rattle.tag.specs.Bounds.{SmallBank, Small};
-ghost use Rattle.tag.specs.Image.{bankAt, view, bankOf, wordAt};
+ghost use Rattle.tag.specs.Image.{bankAt, view, bankOf};
 
 // A bank's place in the image: how many words it has, and where its first byte stands.
 pub struct Bank {

@@ -5,5 +5,7 @@ pub mod good;
 pub mod image;
 pub mod locks;
 mod parsing;
+mod regions;
 mod relocks;
 mod verdicts;
+mod words;

@@ -1,6 +1,6 @@
 -- `act_of` meets its contract, command by command.
-use Rattle.tag.specs.Commands.{actOf, verdict}
 use borrow.Author.Needs.{needs}
+use Rattle.tag.specs.Commands.{actOf, verdict}
 use Rattle.tag.proofs.acts.act_of.Statement.{statement}
 use Rattle.tag.proofs.acts.act_of.Tie as tie
 
@@ -61,23 +61,57 @@ returns c = simp (← (c .before .before .before .parse-command .ensures), c .en
 
 returns-2 : tie.Need-returns-2
 unfolding actOf verdict
-returns-2 c = simp (← (c .before .before .before .before .parse-command .ensures), c .before .enum-told2 .given .1, c .inventory-verdict .ensures, c .before .before .before .view-of .ensures .0)
+returns-2 c =
+    simp (
+      ← (c .before .before .before .before .parse-command .ensures),
+      c .before .enum-told2 .given .1,
+      c .inventory-verdict .ensures,
+      c .before .before .before .view-of .ensures .0,
+    )
 
 returns-3 : tie.Need-returns-3
 unfolding actOf verdict
-returns-3 c = simp (← (c .before .before .before .before .before .before .parse-command .ensures), c .before .before .before .command .given .1, c .read-verdict .ensures, c .before .before .before .before .before .view-of .ensures .0, c .before .standing-to .ensures)
+returns-3 c =
+    simp (
+      ← (c .before .before .before .before .before .before .parse-command .ensures),
+      c .before .before .before .command .given .1,
+      c .read-verdict .ensures,
+      c .before .before .before .before .before .view-of .ensures .0,
+      c .before .standing-to .ensures,
+    )
 
 returns-4 : tie.Need-returns-4
 unfolding actOf verdict
-returns-4 c = simp (← (c .before .before .before .before .before .before .parse-command .ensures), c .before .before .before .command2 .given .1, c .write-verdict .ensures, c .before .before .before .before .before .view-of .ensures .0, c .before .standing-to2 .ensures)
+returns-4 c =
+    simp (
+      ← (c .before .before .before .before .before .before .parse-command .ensures),
+      c .before .before .before .command2 .given .1,
+      c .write-verdict .ensures,
+      c .before .before .before .before .before .view-of .ensures .0,
+      c .before .standing-to2 .ensures,
+    )
 
 returns-5 : tie.Need-returns-5
 unfolding actOf verdict
-returns-5 c = simp (← (c .before .before .before .before .before .before .parse-command .ensures), c .before .before .before .command3 .given .1, c .lock-verdict .ensures, c .before .before .before .before .before .view-of .ensures .0, c .before .standing-to3 .ensures)
+returns-5 c =
+    simp (
+      ← (c .before .before .before .before .before .before .parse-command .ensures),
+      c .before .before .before .command3 .given .1,
+      c .lock-verdict .ensures,
+      c .before .before .before .before .before .view-of .ensures .0,
+      c .before .standing-to3 .ensures,
+    )
 
 returns-6 : tie.Need-returns-6
 unfolding actOf verdict
-returns-6 c = simp (← (c .before .before .before .before .before .before .parse-command .ensures), c .before .before .before .command4 .given .1, c .kill-verdict .ensures, c .before .before .before .before .before .view-of .ensures .0, c .before .kill-standing-to .ensures)
+returns-6 c =
+    simp (
+      ← (c .before .before .before .before .before .before .parse-command .ensures),
+      c .before .before .before .command4 .given .1,
+      c .kill-verdict .ensures,
+      c .before .before .before .before .before .view-of .ensures .0,
+      c .before .kill-standing-to .ensures,
+    )
 
 pub act-of-spec : {M : Type 1} → statement M
 act-of-spec =

@@ -1,7 +1,7 @@
 -- `standing_to` meets its contract: the access password stands four bytes behind the start of Reserved.
+use borrow.Author.Needs.{needs}
 use Rattle.tag.specs.Image.{bankAt, view, accessPassword}
 use Rattle.tag.specs.Locks.{standing}
-use borrow.Author.Needs.{needs}
 use Rattle.tag.proofs.acts.standing_to.Statement.{statement}
 use Rattle.tag.proofs.acts.standing_to.Tie as tie
 

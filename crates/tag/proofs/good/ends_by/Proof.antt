@@ -1,6 +1,6 @@
 -- `ends_by` meets its contract: halves and differences are compared in the place of the sum.
-use Rattle.tag.proofs.Banks.{too-long, too-far, in-time}
 use borrow.Author.Needs.{needs}
+use Rattle.tag.proofs.Banks.{too-long, too-far, in-time}
 use Rattle.tag.proofs.good.ends_by.Statement.{statement}
 use Rattle.tag.proofs.good.ends_by.Tie as tie
 

@@ -1,11 +1,12 @@
 -- `is_good_banks` meets its contract: one failed test is enough, and at the end all but the last hold.
-use mathlib.Core.Path.{_∙_}
+use borrow.Author.Needs.{needs}
 use borrow.Author.Tests.{lt-leb, ne-eqb}
+use mathlib.Core.Bool.{and-false}
+use mathlib.Core.Path.{_∙_}
 use Rattle.frame.specs.Bytes.{all}
 use Rattle.tag.proofs.Banks.{last-bank}
-use Rattle.tag.proofs.Tests.{and-false, not-holds, not-fails}
+use Rattle.tag.proofs.Tests.{not-holds, not-fails}
 use Rattle.tag.specs.Image.{goodBanks}
-use borrow.Author.Needs.{needs}
 use Rattle.tag.proofs.good.is_good_banks.Statement.{statement}
 use Rattle.tag.proofs.good.is_good_banks.Tie as tie
 
@@ -62,13 +63,21 @@ ends-by-requires-4 : tie.Need-ends-by-requires-4
 ends-by-requires-4 c κs = search needs
 
 returns-11 : tie.Need-returns-11
-returns-11 c = let seventh = c .before .before .before .before .before .before .before in
-    let fourth = seventh .before .before .before .before .before .before in
+returns-11 c =
+    let past10 = c .before in
+    let past9 = past10 .before .before in
+    let past8 = past9 .before .before in
+    let past7 = past8 .before .before in
+    let past6 = past7 .before .before in
+    let past5 = past6 .before .before in
+    let past4 = past5 .before .before in
+    let past3 = past4 .before .before in
+    let past2 = past3 .before .before in
+    let past1 = past2 .before .before in
     c .ends-by4 .ensures
-    ∙ last-bank _ (fourth .before .before .before .before .before .before .if1 .left) (fourth .before .before .before .before .if2 .left)
-    (fourth .before .before .if3 .left) (fourth .if4 .left) (seventh .before .before .before .before .if5 .left)
-    (seventh .before .before .if6 .left) (seventh .if7 .left) (not-fails (c .before .before .before .before .before .if8 .left) (c .before .before .before .before .before .before .ends-by .ensures))
-    (not-fails (c .before .before .before .if9 .left) (c .before .before .before .before .ends-by2 .ensures)) (not-fails (c .before .if10 .left) (c .before .before .ends-by3 .ensures))
+    ∙ last-bank _ (past1 .if1 .left) (past2 .if2 .left) (past3 .if3 .left) (past4 .if4 .left) (past5 .if5 .left)
+    (past6 .if6 .left) (past7 .if7 .left) (not-fails (past8 .if8 .left) (past8 .before .ends-by .ensures))
+    (not-fails (past9 .if9 .left) (past9 .before .ends-by2 .ensures)) (not-fails (past10 .if10 .left) (past10 .before .ends-by3 .ensures))
 
 pub is-good-banks-spec : {M : Type 1} → statement M
 is-good-banks-spec =

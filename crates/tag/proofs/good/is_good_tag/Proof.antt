@@ -1,9 +1,9 @@
 -- `is_good_tag` meets its contract: one failed test is enough, and at the end all hold.
-use borrow.Author.Tests.{le-leb, lt-leb, lt-ltb, le-ltb}
-use Rattle.frame.specs.Bytes.{all}
-use Rattle.tag.proofs.Tests.{and-false}
-use Rattle.tag.specs.Image.{epcLength, goodTag}
 use borrow.Author.Needs.{needs}
+use borrow.Author.Tests.{le-leb, lt-leb, lt-ltb, le-ltb}
+use mathlib.Core.Bool.{and-false}
+use Rattle.frame.specs.Bytes.{all}
+use Rattle.tag.specs.Image.{epcLength, goodTag}
 use Rattle.tag.proofs.good.is_good_tag.Statement.{statement}
 use Rattle.tag.proofs.good.is_good_tag.Tie as tie
 
@@ -24,7 +24,10 @@ returns-3 c = simp (lt-leb _ _ (c .if3 .taken), and-false)
 
 returns-4 : tie.Need-returns-4
 unfolding goodTag all epcLength
-returns-4 c = simp (lt-ltb _ _ (c .before .before .before .before .before .if1 .left), le-leb _ _ (c .before .before .before .if2 .left), le-leb _ _ (c .if3 .left))
+returns-4 c =
+    let past2 = c .before .before .before in
+    let past1 = past2 .before .before in
+    simp (lt-ltb _ _ (past1 .if1 .left), le-leb _ _ (past2 .if2 .left), le-leb _ _ (c .if3 .left))
 
 pub is-good-tag-spec : {M : Type 1} → statement M
 is-good-tag-spec = tie.close (tie.spec returns returns-2 add-if3 returns-3 returns-4)

@@ -1,6 +1,6 @@
 -- `bank_at` meets its contract: its two numbers are those of the definition.
-use Rattle.tag.specs.Image.{bankAt}
 use borrow.Author.Needs.{needs}
+use Rattle.tag.specs.Image.{bankAt}
 use Rattle.tag.proofs.image.bank_at.Statement.{statement}
 use Rattle.tag.proofs.image.bank_at.Tie as tie
 
@@ -15,7 +15,8 @@ number-at-requires-2 c κs = search needs
 
 returns : tie.Need-returns
 unfolding bankAt
-returns c = ((cc), record { words-small = c .before .number-at .ensures .1; offset-small = c .number-at2 .ensures .1 })
+returns c =
+    ((cc), record { words-small = c .before .number-at .ensures .1; offset-small = c .number-at2 .ensures .1 })
 
 pub bank-at-spec : {M : Type 1} → statement M
 bank-at-spec = tie.close (tie.spec number-at-requires add-number-at number-at-requires-2 returns)

@@ -1,6 +1,6 @@
 -- `view_of` meets its contract: each field is read where the definition reads it, and is a two-byte number.
-use Rattle.tag.specs.Image.{bankAt, view}
 use borrow.Author.Needs.{needs}
+use Rattle.tag.specs.Image.{bankAt, view}
 use Rattle.tag.proofs.image.view_of.Statement.{statement}
 use Rattle.tag.proofs.image.view_of.Tie as tie
 
@@ -36,7 +36,30 @@ byte-at-requires c κs = search needs
 
 returns : tie.Need-returns
 unfolding view bankAt
-returns c = (simp (c .before .before .before .before .before .before .before .number-at .ensures .0, c .before .before .before .number-at2 .ensures .0, c .before .before .number-at3 .ensures .0, c .before .number-at4 .ensures .0, c .byte-at .ensures, c .before .before .before .before .before .before .before .before .before .bank-at .ensures .0, c .before .before .before .before .before .before .bank-at2 .ensures .0, c .before .before .before .before .before .bank-at3 .ensures .0, c .before .before .before .before .bank-at4 .ensures .0), record { reserved-small = c .before .before .before .before .before .before .bank-at2 .ensures .1; epc-small = c .before .before .before .before .before .before .before .before .before .bank-at .ensures .1; tid-small = c .before .before .before .before .before .bank-at3 .ensures .1; user-small = c .before .before .before .before .bank-at4 .ensures .1; locks-small = c .before .number-at4 .ensures .1; pc-small = c .before .before .before .before .before .before .before .number-at .ensures .1 })
+returns c =
+    let banks = c .before .before .before .before in
+    let pc = banks .before .before .before in
+    let epc = pc .before .before in (
+      simp (
+        pc .number-at .ensures .0,
+        c .before .before .before .number-at2 .ensures .0,
+        c .before .before .number-at3 .ensures .0,
+        c .before .number-at4 .ensures .0,
+        c .byte-at .ensures,
+        epc .bank-at .ensures .0,
+        banks .before .before .bank-at2 .ensures .0,
+        banks .before .bank-at3 .ensures .0,
+        banks .bank-at4 .ensures .0,
+      ),
+      record {
+        reserved-small = banks .before .before .bank-at2 .ensures .1;
+        epc-small = epc .bank-at .ensures .1;
+        tid-small = banks .before .bank-at3 .ensures .1;
+        user-small = banks .bank-at4 .ensures .1;
+        locks-small = c .before .number-at4 .ensures .1;
+        pc-small = pc .number-at .ensures .1;
+      },
+    )
 
 pub view-of-spec : {M : Type 1} → statement M
 view-of-spec =

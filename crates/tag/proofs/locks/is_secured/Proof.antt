@@ -1,7 +1,7 @@
 -- `is_secured` meets its contract, variant by variant.
+use borrow.Author.Needs.{needs}
 use mathlib.Core.Path.{sym, ap}
 use Rattle.tag.specs.Locks.{isSecured}
-use borrow.Author.Needs.{needs}
 use Rattle.tag.proofs.locks.is_secured.Statement.{statement}
 use Rattle.tag.proofs.locks.is_secured.Tie as tie
 

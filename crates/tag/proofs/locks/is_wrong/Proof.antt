@@ -1,7 +1,7 @@
 -- `is_wrong` meets its contract, variant by variant.
+use borrow.Author.Needs.{needs}
 use mathlib.Core.Path.{sym, ap}
 use Rattle.tag.specs.Locks.{isWrong}
-use borrow.Author.Needs.{needs}
 use Rattle.tag.proofs.locks.is_wrong.Statement.{statement}
 use Rattle.tag.proofs.locks.is_wrong.Tie as tie
 

@@ -1,7 +1,7 @@
 -- `bank_in` meets its contract: a byte is a number.
+use borrow.Author.Needs.{needs}
 use native.Mathlib.Omega.{arith}
 use Rattle.tag.specs.Commands.{bankIn}
-use borrow.Author.Needs.{needs}
 use Rattle.tag.proofs.parsing.bank_in.Statement.{statement}
 use Rattle.tag.proofs.parsing.bank_in.Tie as tie
 

@@ -1,7 +1,6 @@
 -- `ld_in` meets its contract: three bytes, high first.
-use Rattle.frame.specs.Bytes.{byte}
-use Rattle.tag.specs.Commands.{bankIn, ldIn}
 use borrow.Author.Needs.{needs}
+use Rattle.tag.specs.Commands.{bankIn, ldIn}
 use Rattle.tag.proofs.parsing.ld_in.Statement.{statement}
 use Rattle.tag.proofs.parsing.ld_in.Tie as tie
 

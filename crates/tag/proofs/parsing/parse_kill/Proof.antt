@@ -1,8 +1,8 @@
 -- `parse_kill` meets its contract.
+use borrow.Author.Needs.{needs}
 use borrow.Author.Tests.{eq-eqb, ne-eqb}
 use Rattle.frame.proofs.Picks.{pick-true, pick-false}
 use Rattle.tag.specs.Commands.{passwordIn, parseKill}
-use borrow.Author.Needs.{needs}
 use Rattle.tag.proofs.parsing.parse_kill.Statement.{statement}
 use Rattle.tag.proofs.parsing.parse_kill.Tie as tie
 

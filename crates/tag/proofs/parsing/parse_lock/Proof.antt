@@ -1,9 +1,9 @@
 -- `parse_lock` meets its contract: mask and action are the two halves of LD's twenty bits.
-use borrow.Author.Tests.{eq-eqb, ne-eqb, lt-ltb, le-ltb}
-use Rattle.frame.proofs.Picks.{pick-true, pick-false}
-use Rattle.tag.proofs.Tests.{and-false}
-use Rattle.tag.specs.Commands.{passwordIn, parseLock}
 use borrow.Author.Needs.{needs}
+use borrow.Author.Tests.{eq-eqb, ne-eqb, lt-ltb, le-ltb}
+use mathlib.Core.Bool.{and-false}
+use Rattle.frame.proofs.Picks.{pick-true, pick-false}
+use Rattle.tag.specs.Commands.{passwordIn, parseLock}
 use Rattle.tag.proofs.parsing.parse_lock.Statement.{statement}
 use Rattle.tag.proofs.parsing.parse_lock.Tie as tie
 
@@ -23,7 +23,14 @@ double-at-requires c κs = search needs
 
 returns-3 : tie.Need-returns-3
 unfolding parseLock passwordIn
-returns-3 c = simp (← (c .before .before .ld-in .ensures), eq-eqb _ _ (c .before .before .before .if1 .left), lt-ltb _ _ (c .before .if2 .left), pick-true, c .double-at .ensures .0)
+returns-3 c =
+    simp (
+      ← (c .before .before .ld-in .ensures),
+      eq-eqb _ _ (c .before .before .before .if1 .left),
+      lt-ltb _ _ (c .before .if2 .left),
+      pick-true,
+      c .double-at .ensures .0,
+    )
 
 pub parse-lock-spec : {M : Type 1} → statement M
 parse-lock-spec =

@@ -1,9 +1,10 @@
 -- `parse_read` meets its contract: each field is read where the definition reads it.
-use borrow.Author.Tests.{eq-eqb, ne-eqb}
-use Rattle.frame.proofs.Picks.{pick-true, pick-false}
-use Rattle.tag.proofs.Tests.{and-false, not-holds, not-fails}
-use Rattle.tag.specs.Commands.{passwordIn, pointerIn, countIn, parseRead}
 use borrow.Author.Needs.{needs}
+use borrow.Author.Tests.{eq-eqb, ne-eqb}
+use mathlib.Core.Bool.{and-false}
+use Rattle.frame.proofs.Picks.{pick-true, pick-false}
+use Rattle.tag.proofs.Tests.{not-holds, not-fails}
+use Rattle.tag.specs.Commands.{passwordIn, pointerIn, countIn, parseRead}
 use Rattle.tag.proofs.parsing.parse_read.Statement.{statement}
 use Rattle.tag.proofs.parsing.parse_read.Tie as tie
 
@@ -32,7 +33,18 @@ number-at-requires-2 c κs = search needs
 
 returns-3 : tie.Need-returns-3
 unfolding parseRead passwordIn pointerIn countIn
-returns-3 c = simp (eq-eqb _ _ (c .before .before .before .before .before .before .if1 .left), not-fails (c .before .before .before .before .if2 .left) (c .before .before .before .before .before .aims-right .ensures), pick-true, c .before .before .before .double-at .ensures .0, c .before .before .bank-in .ensures .0, c .before .number-at .ensures .0, c .number-at2 .ensures .0)
+returns-3 c =
+    let past2 = c .before .before .before .before in
+    let past1 = past2 .before .before in
+    simp (
+      eq-eqb _ _ (past1 .if1 .left),
+      not-fails (past2 .if2 .left) (past2 .before .aims-right .ensures),
+      pick-true,
+      c .before .before .before .double-at .ensures .0,
+      c .before .before .bank-in .ensures .0,
+      c .before .number-at .ensures .0,
+      c .number-at2 .ensures .0,
+    )
 
 pub parse-read-spec : {M : Type 1} → statement M
 parse-read-spec =

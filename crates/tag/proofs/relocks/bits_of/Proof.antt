@@ -1,7 +1,7 @@
 -- `bits_of` meets its contract: five pairs make at most ten bits.
+use borrow.Author.Needs.{needs}
 use mathlib.Core.Path.{refl}
 use Rattle.tag.specs.Locks.{bitsOf}
-use borrow.Author.Needs.{needs}
 use Rattle.tag.proofs.relocks.bits_of.Statement.{statement}
 use Rattle.tag.proofs.relocks.bits_of.Tie as tie
 

@@ -1,6 +1,6 @@
 -- `breaks_pair` meets its contract: a pair breaks its permalock where that is set and the pair changes.
 use borrow.Author.Tests.{eq-eqb, ne-eqb}
-use Rattle.tag.proofs.Tests.{and-false}
+use mathlib.Core.Bool.{and-false}
 use Rattle.tag.specs.Locks.{breaks, permalocked}
 use Rattle.tag.proofs.relocks.breaks_pair.Statement.{statement}
 use Rattle.tag.proofs.relocks.breaks_pair.Tie as tie

@@ -1,6 +1,6 @@
 -- `new_bit` meets its contract: a masked bit is the action's.
-use borrow.Author.Tests.{eq-eqb, ne-eqb}
 use borrow.Author.Needs.{needs}
+use borrow.Author.Tests.{eq-eqb, ne-eqb}
 use Rattle.frame.proofs.Picks.{pick-true, pick-false}
 use Rattle.tag.specs.Locks.{newBit}
 use Rattle.tag.proofs.relocks.new_bit.Statement.{statement}

@@ -1,7 +1,7 @@
 -- `new_pair` meets its contract, bit by bit.
+use borrow.Author.Needs.{needs}
 use native.Mathlib.Omega.{arith}
 use Rattle.tag.specs.Locks.{newPair}
-use borrow.Author.Needs.{needs}
 use Rattle.tag.proofs.relocks.new_pair.Statement.{statement}
 use Rattle.tag.proofs.relocks.new_pair.Tie as tie
 

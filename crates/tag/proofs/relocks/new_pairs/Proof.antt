@@ -1,6 +1,6 @@
 -- `new_pairs` meets its contract, pair by pair.
-use Rattle.tag.specs.Locks.{newPairs}
 use borrow.Author.Needs.{needs}
+use Rattle.tag.specs.Locks.{newPairs}
 use Rattle.tag.proofs.relocks.new_pairs.Statement.{statement}
 use Rattle.tag.proofs.relocks.new_pairs.Tie as tie
 
@@ -21,7 +21,16 @@ new-pair-requires-5 c κs = search needs
 
 returns : tie.Need-returns
 unfolding newPairs
-returns c = ((cc), record { kill-pair = c .before .before .before .before .new-pair .ensures .1; access-pair = c .before .before .before .new-pair2 .ensures .1; epc-pair = c .before .before .new-pair3 .ensures .1; tid-pair = c .before .new-pair4 .ensures .1; user-pair = c .new-pair5 .ensures .1 })
+returns c = (
+  (cc),
+  record {
+    kill-pair = c .before .before .before .before .new-pair .ensures .1;
+    access-pair = c .before .before .before .new-pair2 .ensures .1;
+    epc-pair = c .before .before .new-pair3 .ensures .1;
+    tid-pair = c .before .new-pair4 .ensures .1;
+    user-pair = c .new-pair5 .ensures .1;
+  },
+)
 
 pub new-pairs-spec : {M : Type 1} → statement M
 new-pairs-spec =

@@ -1,7 +1,7 @@
 -- `kill_acts` meets its contract, variant by variant.
+use borrow.Author.Needs.{needs}
 use mathlib.Core.Path.{sym, ap}
 use Rattle.tag.specs.Commands.{killActs}
-use borrow.Author.Needs.{needs}
 use Rattle.tag.proofs.verdicts.kill_acts.Statement.{statement}
 use Rattle.tag.proofs.verdicts.kill_acts.Tie as tie
 

@@ -1,8 +1,8 @@
 -- `kill_verdict` meets its contract.
+use borrow.Author.Needs.{needs}
 use borrow.Author.Tests.{eq-eqb, ne-eqb}
 use Rattle.frame.proofs.Picks.{pick-true, pick-false}
 use Rattle.tag.specs.Commands.{gone, killVerdict}
-use borrow.Author.Needs.{needs}
 use Rattle.tag.proofs.verdicts.kill_verdict.Statement.{statement}
 use Rattle.tag.proofs.verdicts.kill_verdict.Tie as tie
 

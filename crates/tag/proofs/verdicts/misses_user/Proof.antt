@@ -1,6 +1,6 @@
 -- `misses_user` meets its contract.
 use borrow.Author.Tests.{eq-eqb, ne-eqb}
-use Rattle.tag.proofs.Tests.{and-false}
+use mathlib.Core.Bool.{and-false}
 use Rattle.tag.proofs.verdicts.misses_user.Statement.{statement}
 use Rattle.tag.proofs.verdicts.misses_user.Tie as tie
 

@@ -1,10 +1,10 @@
 -- `may_read` meets its contract: only Reserved has regions that can refuse a Read.
+use borrow.Author.Needs.{needs}
 use borrow.Author.Tests.{eq-eqb, ne-eqb}
 use Rattle.frame.proofs.Picks.{pick-true, pick-false}
 use Rattle.tag.specs.Locks.{mayRead}
-use borrow.Author.Needs.{needs}
-use Rattle.tag.proofs.locks.may_read.Statement.{statement}
-use Rattle.tag.proofs.locks.may_read.Tie as tie
+use Rattle.tag.proofs.regions.may_read.Statement.{statement}
+use Rattle.tag.proofs.regions.may_read.Tie as tie
 
 may-touch-passwords-requires : tie.Need-may-touch-passwords-requires
 may-touch-passwords-requires c κs = search needs

@@ -1,12 +1,12 @@
--- Laws of the words that a command reaches, tested without a sum that could wrap: which it touches, and whether they are in their bank.
+-- Laws of the words that a command reaches, tested without a sum that could wrap: which regions they touch, and whether they
+-- are in their bank.
 use Prim.Native.Nat.{ℕ, _+_, _-_, _<_, _≤_}
-use mathlib.Core.Bool.{true, false}
+use mathlib.Core.Bool.{true, false, and-false}
 use mathlib.Core.Path.{_≡_, sym}
 use borrow.Author.Tests.{lt-ltb, le-ltb, ltb-false}
 use lib.Dec.{ltb}
 use native.Mathlib.Omega.{arith}
 use Rattle.tag.proofs.Banks.{small-bank}
-use Rattle.tag.proofs.Tests.{and-false}
 use Rattle.tag.specs.Bounds.{Small}
 use Rattle.tag.specs.Commands.{outside}
 use Rattle.tag.specs.Image.{bankOf}
@@ -45,7 +45,11 @@ pub record Near (v : View) (bank pointer count : ℕ) : Type 0 where
   pub span-near : pointer + count < 65536
   pub offset-near : bankOf v bank .offset < 65536
 
-pub inside-near : (v : View) (bank pointer count : ℕ) → Small v → outside v bank pointer count ≡ false → Near v bank pointer count
+pub inside-near :
+    (v : View) (bank pointer count : ℕ)
+    → Small v
+    → outside v bank pointer count ≡ false
+    → Near v bank pointer count
 unfolding outside
 inside-near v bank pointer count s e =
     let small = small-bank v bank s in

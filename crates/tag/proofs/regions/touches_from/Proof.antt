@@ -1,8 +1,8 @@
 -- `touches_from` meets its contract: differences are compared in the place of the sum.
-use Rattle.tag.proofs.Regions.{starts-behind, starts-inside, stops-before, reaches-in}
 use borrow.Author.Needs.{needs}
-use Rattle.tag.proofs.locks.touches_from.Statement.{statement}
-use Rattle.tag.proofs.locks.touches_from.Tie as tie
+use Rattle.tag.proofs.Reach.{starts-behind, starts-inside, stops-before, reaches-in}
+use Rattle.tag.proofs.regions.touches_from.Statement.{statement}
+use Rattle.tag.proofs.regions.touches_from.Tie as tie
 
 add-if1 : tie.Need-add-if1
 add-if1 c = search needs

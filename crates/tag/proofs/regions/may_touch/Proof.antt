@@ -1,8 +1,7 @@
 -- `may_touch` meets its contract: a region that is not touched lets every command through.
-use Rattle.tag.proofs.Tests.{holds, fails}
 use borrow.Author.Needs.{needs}
-use Rattle.tag.proofs.locks.may_touch.Statement.{statement}
-use Rattle.tag.proofs.locks.may_touch.Tie as tie
+use Rattle.tag.proofs.regions.may_touch.Statement.{statement}
+use Rattle.tag.proofs.regions.may_touch.Tie as tie
 
 touches-from-requires : tie.Need-touches-from-requires
 touches-from-requires c κs = search needs
@@ -11,10 +10,10 @@ allows-at-requires : tie.Need-allows-at-requires
 allows-at-requires c κs = search needs
 
 returns : tie.Need-returns
-returns c = simp (holds (c .before .if1 .taken) (c .before .before .touches-from .ensures), c .allows-at .ensures)
+returns c = simp (← (c .before .before .touches-from .ensures), c .before .if1 .taken, c .allows-at .ensures)
 
 returns-2 : tie.Need-returns-2
-returns-2 c = simp (fails (c .if1 .left) (c .before .touches-from .ensures))
+returns-2 c = simp (← (c .before .touches-from .ensures), c .if1 .left)
 
 pub may-touch-spec : {M : Type 1} → statement M
 may-touch-spec = tie.close (tie.spec touches-from-requires allows-at-requires returns returns-2)

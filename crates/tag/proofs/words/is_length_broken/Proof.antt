@@ -1,14 +1,14 @@
 -- `is_length_broken` meets its contract: one failed test is enough, and at the end all hold.
 use Prim.Native.Nat.{_+_}
+use borrow.Author.Needs.{needs}
 use borrow.Author.Tests.{eq-eqb, ne-eqb, le-leb, lt-leb, lt-ltb, le-ltb}
+use mathlib.Core.Bool.{and-false}
 use native.Mathlib.Omega.{arith}
 use Rattle.tag.proofs.Data.{number-in-data}
-use Rattle.tag.proofs.Tests.{and-false}
 use Rattle.tag.specs.Commands.{lengthBroken}
 use Rattle.tag.specs.Image.{epcLength}
-use borrow.Author.Needs.{needs}
-use Rattle.tag.proofs.verdicts.is_length_broken.Statement.{statement}
-use Rattle.tag.proofs.verdicts.is_length_broken.Tie as tie
+use Rattle.tag.proofs.words.is_length_broken.Statement.{statement}
+use Rattle.tag.proofs.words.is_length_broken.Tie as tie
 
 returns : tie.Need-returns
 unfolding lengthBroken
@@ -20,7 +20,9 @@ returns-2 c = simp (lt-leb _ _ (c .if2 .taken), and-false)
 
 returns-3 : tie.Need-returns-3
 unfolding lengthBroken
-returns-3 c = let a = c .before .before .before .before .before .args in simp (le-ltb 1 (a .pointer + a .count) (omega arith), and-false)
+returns-3 c =
+    let a = c .before .before .before .before .before .args in
+    simp (le-ltb 1 (a .pointer + a .count) (omega arith), and-false)
 
 mul-number-at : tie.Need-mul-number-at
 mul-number-at c = search needs
@@ -36,12 +38,23 @@ add-if4 c = search needs
 
 returns-4 : tie.Need-returns-4
 unfolding lengthBroken epcLength
-returns-4 c = simp (number-in-data, ← (c .before .before .number-at .ensures .0), le-ltb _ _ (c .if4 .taken), and-false)
+returns-4 c =
+    simp (number-in-data, ← (c .before .before .number-at .ensures .0), le-ltb _ _ (c .if4 .taken), and-false)
 
 returns-5 : tie.Need-returns-5
 unfolding lengthBroken epcLength
-returns-5 c = let a = c .before .before .before .before .before .before .before .before .args in
-    simp (number-in-data, ← (c .before .before .number-at .ensures .0), eq-eqb _ _ (c .before .before .before .before .before .if1 .left), le-leb _ _ (c .before .before .before .before .if2 .left), lt-ltb 1 (a .pointer + a .count) (omega arith), lt-ltb _ _ (c .if4 .left))
+returns-5 c =
+    let past2 = c .before .before .before .before in
+    let past1 = past2 .before in
+    let a = past1 .before .before .before .args in
+    simp (
+      number-in-data,
+      ← (c .before .before .number-at .ensures .0),
+      eq-eqb _ _ (past1 .if1 .left),
+      le-leb _ _ (past2 .if2 .left),
+      lt-ltb 1 (a .pointer + a .count) (omega arith),
+      lt-ltb _ _ (c .if4 .left),
+    )
 
 pub is-length-broken-spec : {M : Type 1} → statement M
 is-length-broken-spec =

@@ -1,0 +1,103 @@
+// The verdicts of the commands that reach words of a bank, checks in order: Read and Write (document 01, "The commands,
+// checks in order").
+use crate::commands::Act;
+use crate::image::View;
+use crate::image::bank_of;
+use crate::locks::Standing;
+use crate::locks::is_wrong;
+use crate::regions::may_read;
+use crate::regions::may_write;
+use frame::bytes;
+ghost use mathlib.Core.Path.{_≡_};
+ghost use Rattle.tag.specs.Bounds.{Small};
+ghost use Rattle.tag.specs.Commands.{dataIn, outside, lengthBroken, readVerdict, writeVerdict};
+
+// Tested so that no sum can wrap.
+fn is_outside(v: View, bank: usize, pointer: usize, count: usize) -> bool
+    ensures { λ r. ⌜ r ≡ outside v bank pointer count ⌝ }
+{
+    let b = bank_of(v, bank);
+    if b.words < pointer {
+        return true;
+    }
+    if b.words - pointer < count {
+        return true;
+    }
+    false
+}
+
+pub(crate) fn read_verdict(v: View, s: Standing, bank: usize, pointer: usize, count: usize) -> Act
+    requires { ⌜ Small v ⌝ }
+    ensures { λ r. ⌜ r ≡ readVerdict v s bank pointer count ⌝ }
+{
+    if v.state != 0 {
+        return Act::PlainError(0x09);
+    }
+    if is_wrong(s) {
+        return Act::TagError(0x16);
+    }
+    if is_outside(v, bank, pointer, count) {
+        return Act::TagError(0xA3);
+    }
+    if !may_read(v, s, bank, pointer, count) {
+        return Act::TagError(0xA4);
+    }
+    let b = bank_of(v, bank);
+    Act::Give {
+        at: b.offset + 2 * pointer,
+        length: 2 * count,
+    }
+}
+
+// The new PC stands among the data, which follow the first nine of the parameters.
+fn is_length_broken(v: View, bank: usize, pointer: usize, count: usize, parameters: &[u8]) -> bool
+    ensures { λ r. ⌜ r ≡ lengthBroken v bank pointer count (dataIn (now (parameters .entry))) ⌝ }
+{
+    let epc = v.epc;
+    if bank != 1 {
+        return false;
+    }
+    if 1 < pointer {
+        return false;
+    }
+    if count <= 1 - pointer {
+        return false;
+    }
+    let pc = bytes::number_at(parameters, 9 + 2 * (1 - pointer));
+    if pc / 2048 + 2 <= epc.words {
+        return false;
+    }
+    true
+}
+
+pub(crate) fn write_verdict(
+    v: View,
+    s: Standing,
+    bank: usize,
+    pointer: usize,
+    count: usize,
+    parameters: &[u8],
+) -> Act
+    requires { ⌜ Small v ⌝ }
+    ensures { λ r. ⌜ r ≡ writeVerdict v s bank pointer count (dataIn (now (parameters .entry))) ⌝ }
+{
+    if v.state != 0 {
+        return Act::PlainError(0x10);
+    }
+    if is_wrong(s) {
+        return Act::TagError(0x16);
+    }
+    if is_outside(v, bank, pointer, count) {
+        return Act::TagError(0xB3);
+    }
+    if !may_write(v, s, bank, pointer, count) {
+        return Act::TagError(0xB4);
+    }
+    if is_length_broken(v, bank, pointer, count, parameters) {
+        return Act::TagError(0xB3);
+    }
+    let b = bank_of(v, bank);
+    Act::Store {
+        at: b.offset + 2 * pointer,
+    }
+}
