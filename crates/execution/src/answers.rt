@@ -19,7 +19,7 @@ ghost use Rattle.tag.specs.declared.commands.Act.the-variants.{PlainError, TagE
 ghost use Rattle.execution.specs.Putting.{Answered};
 
 // Code FF and one byte.
-fn plain_error(output: &mut [u8], e: u8) -> usize
+pub(crate) fn plain_error(output: &mut [u8], e: u8) -> usize
     requires { ⌜ 136 ≤ length (now output) ⌝ }
     ensures { λ r. ⌜ Answered (frameOf 0x01 0xFF (e ∷ [])) (now (output .entry)) (now (output .exit)) r ⌝ }
 {
@@ -28,7 +28,7 @@ fn plain_error(output: &mut [u8], e: u8) -> usize
 }
 
 // Code FF, one byte and the tail.
-fn tag_error(image: &[u8], output: &mut [u8], e: u8) -> usize
+pub(crate) fn tag_error(image: &[u8], output: &mut [u8], e: u8) -> usize
     requires { ⌜ (good (now image) ≡ true) × (136 ≤ length (now output)) ⌝ }
     ensures { λ r. ⌜ Answered (answer (now (image .entry)) (TagError e)) (now (output .entry)) (now (output .exit)) r ⌝ }
 {
@@ -38,7 +38,7 @@ fn tag_error(image: &[u8], output: &mut [u8], e: u8) -> usize
 }
 
 // RSSI, PC, EPC and the CRC-16 of these two.
-fn notify(image: &[u8], output: &mut [u8]) -> usize
+pub(crate) fn notify(image: &[u8], output: &mut [u8]) -> usize
     requires { ⌜ (good (now image) ≡ true) × (136 ≤ length (now output)) ⌝ }
     ensures { λ r. ⌜ Answered (answer (now (image .entry)) Notify) (now (output .entry)) (now (output .exit)) r ⌝ }
 {
@@ -49,7 +49,7 @@ fn notify(image: &[u8], output: &mut [u8]) -> usize
 }
 
 // The tail, then the words.
-fn give(image: &[u8], output: &mut [u8], at: usize, n: usize) -> usize
+pub(crate) fn give(image: &[u8], output: &mut [u8], at: usize, n: usize) -> usize
     requires { ⌜ (good (now image) ≡ true) × ((136 ≤ length (now output)) × ((at + n ≤ length (now image)) × (n ≤ 64))) ⌝ }
     ensures { λ r. ⌜ Answered (answer (now (image .entry)) (Give at n)) (now (output .entry)) (now (output .exit)) r ⌝ }
 {
@@ -59,7 +59,7 @@ fn give(image: &[u8], output: &mut [u8], at: usize, n: usize) -> usize
 }
 
 // The tail, then 00: a Write, a Lock or a Kill is done.
-fn done(image: &[u8], output: &mut [u8], code: u8) -> usize
+pub(crate) fn done(image: &[u8], output: &mut [u8], code: u8) -> usize
     requires { ⌜ (good (now image) ≡ true) × (136 ≤ length (now output)) ⌝ }
     ensures { λ r. ⌜ Answered (frameOf 0x01 code (tail (now (image .entry)) ++ (0x00 ∷ []))) (now (output .entry)) (now (output .exit)) r ⌝ }
 {
