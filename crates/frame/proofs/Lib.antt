@@ -1,5 +1,6 @@
 pub mod Accepting
 pub mod Closings
+pub mod Copies
 pub mod Finds
 pub mod FrameBytes
 pub mod Numbers

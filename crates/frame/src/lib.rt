@@ -2,4 +2,5 @@
 pub mod bytes;
 pub mod check;
 pub mod closing;
+pub mod copying;
 pub mod finding;

@@ -37,7 +37,7 @@ fn bank_at(image: &[u8], i: usize) -> Bank
 }
 
 // Of any image, also a bad one: what lies behind its end counts as 0.
-pub(crate) fn view_of(image: &[u8]) -> View
+pub fn view_of(image: &[u8]) -> View
     ensures { λ r. ⌜ r ≡ view (now (image .entry)) ⌝ }
     ensures { λ r. ⌜ Small r ⌝ }
 {

@@ -1,0 +1,6 @@
+pub mod Acts
+pub mod Executions
+pub mod Pieces
+pub mod Reaches
+pub mod Rounds
+pub mod Tails

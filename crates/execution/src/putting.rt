@@ -1,0 +1,56 @@
+// Putting the parameters of an answer into the output, piece behind piece. Each function here returns the place behind its piece.
+use frame::copying::copy;
+use tag::image::view_of;
+ghost use mathlib.Core.Path.{_≡_};
+ghost use mathlib.Core.Bool.{true};
+ghost use Prim.Native.Nat.{_+_, _≤_};
+ghost use lib.ListN.{length};
+ghost use lib.Seq.{sets};
+ghost use Rattle.crc.specs.Crc.{tagCrc};
+ghost use Rattle.frame.specs.Bytes.{twoBytes};
+ghost use Rattle.tag.specs.Answers.{pcAndEpc, tail};
+ghost use Rattle.tag.specs.Image.{good};
+ghost use Rattle.execution.specs.Putting.{Put};
+
+// A number as two bytes, high first.
+pub(crate) fn put_number(bytes: &mut [u8], at: usize, n: usize)
+    requires { ⌜ at + 2 ≤ length (now bytes) ⌝ }
+    ensures { λ r. ⌜ now (bytes .exit) ≡ sets (now (bytes .entry)) at (twoBytes n) ⌝ }
+{
+    bytes[at] = (n / 256 % 256) as u8;
+    bytes[at + 1] = (n % 256) as u8;
+}
+
+// The PC and the EPC: EPC word 1 and the L words that follow it.
+pub(crate) fn put_pc_and_epc(image: &[u8], output: &mut [u8], at: usize) -> usize
+    requires { ⌜ (good (now image) ≡ true) × (at + 64 ≤ length (now output)) ⌝ }
+    ensures { λ r. ⌜ Put (pcAndEpc (now (image .entry))) at (now (output .entry)) (now (output .exit)) r ⌝ }
+{
+    let v = view_of(image);
+    let epc = v.epc;
+    let n = 2 + 2 * (v.pc / 2048);
+    copy(image, epc.offset + 2, n, output, at);
+    at + n
+}
+
+// The tail: a byte that counts the bytes of PC and EPC, and these.
+pub(crate) fn put_tail(image: &[u8], output: &mut [u8], at: usize) -> usize
+    requires { ⌜ (good (now image) ≡ true) × (at + 65 ≤ length (now output)) ⌝ }
+    ensures { λ r. ⌜ Put (tail (now (image .entry))) at (now (output .entry)) (now (output .exit)) r ⌝ }
+{
+    let v = view_of(image);
+    output[at] = (2 + 2 * (v.pc / 2048)) as u8;
+    put_pc_and_epc(image, output, at + 1)
+}
+
+// The CRC-16 of the PC and the EPC.
+pub(crate) fn crc_of_epc(image: &[u8]) -> u16
+    requires { ⌜ good (now image) ≡ true ⌝ }
+    ensures { λ r. ⌜ r ≡ tagCrc (pcAndEpc (now (image .entry))) ⌝ }
+{
+    let v = view_of(image);
+    let epc = v.epc;
+    let from = epc.offset + 2;
+    let to = from + (2 + 2 * (v.pc / 2048));
+    crc::tag_crc(&image[from..to])
+}
