@@ -1,9 +1,10 @@
 -- Laws of tests joined by "and", and of lists of tests.
 use Prim.Native.Nat.{ℕ, zero, suc}
 use lib.ListN.{getD}
-use mathlib.Core.Bool.{Bool, true, false, _&&_, _||_}
+use borrow.Author.Tests.{not-true, not-false}
+use mathlib.Core.Bool.{Bool, true, false, not, _&&_, _||_}
 use mathlib.Core.List.{List, [], _∷_}
-use mathlib.Core.Path.{_≡_, refl}
+use mathlib.Core.Path.{_≡_, refl, sym, _∙_}
 use Rattle.frame.specs.Bytes.{all}
 
 pub and-left : (a b : Bool) → (a && b) ≡ true → a ≡ true
@@ -48,3 +49,17 @@ either false yes-case no-case = no-case refl
 pub and-true : (a : Bool) → (a && true) ≡ a
 and-true true = refl
 and-true false = refl
+
+-- ---- what a call's answer, tested by an `if`, says of the definition that it is promised to equal
+
+pub holds : {answer test : Bool} → answer ≡ true → answer ≡ test → test ≡ true
+holds a e = sym e ∙ a
+
+pub fails : {answer test : Bool} → answer ≡ false → answer ≡ test → test ≡ false
+fails a e = sym e ∙ a
+
+pub not-holds : {answer test : Bool} → not answer ≡ true → answer ≡ test → test ≡ false
+not-holds {answer = answer} a e = sym e ∙ not-true answer a
+
+pub not-fails : {answer test : Bool} → not answer ≡ false → answer ≡ test → test ≡ true
+not-fails {answer = answer} a e = sym e ∙ not-false answer a

@@ -8,4 +8,3 @@ pub mod LockPairs
 pub mod Places
 pub mod Reach
 pub mod StaysGood
-pub mod Tests

@@ -1,7 +1,7 @@
 -- `execute` meets its contract: the tests and the verdict, then the answer, then the store.
 use Rattle.execution.proofs.Executions.{refused-short, refused-bad, executed-error, executed-good}
 use Rattle.execution.proofs.Reaches.{good-least, gives-judged, stores-judged}
-use Rattle.tag.proofs.Tests.{holds, fails, not-holds, not-fails}
+use Rattle.frame.proofs.Tests.{holds, fails, not-holds, not-fails}
 use borrow.Author.Needs.{needs}
 use Rattle.execution.proofs.execute.execute.Statement.{statement}
 use Rattle.execution.proofs.execute.execute.Tie as tie

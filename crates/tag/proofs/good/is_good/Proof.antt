@@ -1,7 +1,7 @@
 -- `is_good` meets its contract: it tests the view of the image, part by part.
 use borrow.Author.Needs.{needs}
 use mathlib.Core.Bool.{and-false}
-use Rattle.tag.proofs.Tests.{not-holds, not-fails}
+use Rattle.frame.proofs.Tests.{not-holds, not-fails}
 use Rattle.tag.specs.Image.{good}
 use Rattle.tag.proofs.good.is_good.Statement.{statement}
 use Rattle.tag.proofs.good.is_good.Tie as tie

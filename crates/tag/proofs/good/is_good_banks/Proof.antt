@@ -5,7 +5,7 @@ use mathlib.Core.Bool.{and-false}
 use mathlib.Core.Path.{_∙_}
 use Rattle.frame.specs.Bytes.{all}
 use Rattle.tag.proofs.Banks.{last-bank}
-use Rattle.tag.proofs.Tests.{not-holds, not-fails}
+use Rattle.frame.proofs.Tests.{not-holds, not-fails}
 use Rattle.tag.specs.Image.{goodBanks}
 use Rattle.tag.proofs.good.is_good_banks.Statement.{statement}
 use Rattle.tag.proofs.good.is_good_banks.Tie as tie

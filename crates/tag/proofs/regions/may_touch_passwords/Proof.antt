@@ -1,6 +1,6 @@
 -- `may_touch_passwords` meets its contract: both regions let the command through.
 use borrow.Author.Needs.{needs}
-use Rattle.tag.proofs.Tests.{not-holds, not-fails}
+use Rattle.frame.proofs.Tests.{not-holds, not-fails}
 use Rattle.tag.specs.Locks.{mayTouchPasswords}
 use Rattle.tag.proofs.regions.may_touch_passwords.Statement.{statement}
 use Rattle.tag.proofs.regions.may_touch_passwords.Tie as tie
