@@ -4,6 +4,7 @@ pub mod Claimed
 pub mod Computed
 pub mod Effects
 pub mod Histories
+pub mod Parts
 pub mod Quiet
 pub mod Secret
 pub mod Steps

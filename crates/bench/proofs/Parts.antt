@@ -1,0 +1,115 @@
+-- The parts of a call: each test that refuses it, and what is found and answered, is the machine's step.
+use Prim.Native.Nat.{ℕ, _+_, _-_, _≤_, _<_}
+use borrow.Author.Tests.{lt-ltb, le-ltb, le-leb}
+use lib.Dec.{leb}
+use lib.ListN.{length, take, drop, getD, length-drop}
+use lib.Seq.{getD-drop, drop-drop}
+use mathlib.Core.Bool.{Bool, true, false}
+use mathlib.Core.List.{List}
+use mathlib.Core.Path.{_≡_, refl, ap, ap₂, sym, _∙_}
+use native.Mathlib.Omega.{arith}
+use Rattle.bench.proofs.Steps.{step-ready}
+use Rattle.bench.specs.Calls.{stateOf, left, stayed, Tested, Answerable, finding, answering}
+use Rattle.bench.specs.Counts.{full, withGood, withError}
+use Rattle.bench.specs.Machine.{State, call, unchanged, answered, counted, actIn, step, inputOf, restOf, afterFinding}
+use Rattle.bench.specs.declared.calling.Called.{Called}
+use Rattle.bench.specs.declared.outcome.Outcome.{Outcome}
+use Rattle.bench.specs.declared.outcome.Outcome.the-variants.{Answered, AtEnd, Incomplete, PastEnd, BadImage, ShortOutput, FullTally}
+use Rattle.bench.specs.declared.tally.Tally.{Tally}
+use Rattle.execution.specs.Execution as Execution
+use Rattle.execution.specs.Execution.{Execution, executable, imageAfter, outputAfter, resultOf}
+use Rattle.execution.specs.declared.execute.Executed.{Executed}
+use Rattle.execution.specs.declared.execute.Executed.the-variants.{Refused, Good, Error}
+use Rattle.frame.proofs.Accepting.{accepted}
+use Rattle.frame.proofs.Picks.{pick-true, pick-false}
+use Rattle.frame.proofs.Tests.{and-both}
+use Rattle.frame.specs.Bytes.{pick, byte, part}
+use Rattle.frame.specs.Finding.{find, codeIn, plIn, parametersIn}
+use Rattle.frame.specs.Frames.{frameLength, longestAnswer, written}
+use Rattle.frame.specs.declared.finding.Found.the-variants.{End, Wait}
+use Rattle.tag.specs.Answers.{answer, changed, isError}
+use Rattle.tag.specs.Commands.{actOf}
+use Rattle.tag.specs.Image.{good}
+use Rattle.tag.specs.declared.commands.Act.{Act}
+
+module _ (input image output : List ℕ) (cursor : ℕ) (tally : Tally) (r : Called) where
+  -- the state before the call, and what a part of it hands back with nothing changed
+  abbrev s : State
+  s = stateOf image output cursor tally
+
+  stays : (o : Outcome) → r ≡ stayed o cursor tally → left r image output ≡ unchanged s o
+  unfolding unchanged
+  stays o e = ap (λ (k : Called). left k image output) e
+
+  pub past : r ≡ stayed PastEnd cursor tally → length input < cursor → left r image output ≡ step (call input) s
+  unfolding step inputOf
+  past e h = stays PastEnd e ∙ simp (lt-ltb (length input) cursor h, pick-true)
+
+  pub bad : r ≡ stayed BadImage cursor tally → cursor ≤ length input → good image ≡ false → left r image output ≡ step (call input) s
+  unfolding step inputOf
+  bad e h g = stays BadImage e ∙ simp (le-ltb (length input) cursor h, g, pick-true, pick-false)
+
+  module _ (h : cursor ≤ length input) (g : good image ≡ true) where
+    pub short : r ≡ stayed ShortOutput cursor tally → length output < 136 → left r image output ≡ step (call input) s
+    unfolding step inputOf longestAnswer
+    short e o = stays ShortOutput e ∙ simp (le-ltb (length input) cursor h, g, lt-ltb (length output) 136 o, pick-true, pick-false)
+
+    pub filled : r ≡ stayed FullTally cursor tally → 136 ≤ length output → full tally ≡ true → left r image output ≡ step (call input) s
+    unfolding step inputOf longestAnswer
+    filled e o f = stays FullTally e ∙ simp (le-ltb (length input) cursor h, g, le-ltb (length output) 136 o, f, pick-true, pick-false)
+
+  pub at-end : r ≡ stayed AtEnd cursor tally → find (drop cursor input) ≡ End → left r image output ≡ finding input s
+  unfolding afterFinding
+  at-end e f = stays AtEnd e ∙ simp f
+
+  pub waiting : r ≡ stayed Incomplete cursor tally → find (drop cursor input) ≡ Wait → left r image output ≡ finding input s
+  unfolding afterFinding
+  waiting e f = stays Incomplete e ∙ simp f
+
+pub found : (input image output : List ℕ) (cursor : ℕ) (tally : Tally) → Tested input image output cursor → full tally ≡ false
+    → finding input (stateOf image output cursor tally) ≡ step (call input) (stateOf image output cursor tally)
+unfolding inputOf restOf
+found input image output cursor tally t f =
+    sym (step-ready (call input) (stateOf image output cursor tally)
+    record { not-past = t .not-past; image-good = t .image-good; room = t .room; not-full = f })
+
+-- ---- an accepted command
+
+module _ (input image output : List ℕ) (cursor : ℕ) (tally : Tally) (pl : ℕ) (a : Answerable input image output cursor pl) where
+  abbrev rest : List ℕ
+  rest = drop cursor input
+
+  pub frame-there : cursor + (7 + pl) ≤ length input
+  frame-there = omega (arith, accepted rest pl (a .accepts) .fits, length-drop cursor input, a .tested .not-past)
+
+  pub code-there : getD input (cursor + 2) 0 ≡ codeIn rest
+  unfolding codeIn byte
+  code-there = sym (getD-drop cursor input 2 0)
+
+  pub parameters-there : take (cursor + 5 + pl - (cursor + 5)) (drop (cursor + 5) input) ≡ parametersIn rest
+  unfolding parametersIn part
+  parameters-there =
+      let n : cursor + 5 + pl - (cursor + 5) ≡ plIn rest = omega (arith, accepted rest pl (a .accepts) .read) in
+      ap₂ (λ (k : ℕ) (l : List ℕ). take k l) n (sym (drop-drop 5 cursor input))
+
+  ready : executable image output ≡ true
+  unfolding executable longestAnswer
+  ready = and-both (leb 136 (length output)) (good image) (le-leb 136 (length output) (a .tested .room)) (a .tested .image-good)
+
+  -- the act of the command, and the frame that answers it
+  abbrev act : Act
+  act = actOf image (codeIn rest) (parametersIn rest)
+
+  module _ (code : ℕ) (p : List ℕ) (same-code : code ≡ codeIn rest) (same-parameters : p ≡ parametersIn rest)
+      (image′ output′ : List ℕ) (executed : Executed) (e : Execution image output code p image′ output′ executed) where
+    image-is : image′ ≡ changed image (parametersIn rest) act
+    unfolding imageAfter
+    image-is = e .image-is ∙ simp (same-code, same-parameters, ready, pick-true)
+
+    output-is : output′ ≡ written (answer image act) output
+    unfolding outputAfter
+    output-is = e .output-is ∙ simp (same-code, same-parameters, ready, pick-true)
+
+    result-is : executed ≡ pick (isError act) (Error (length (answer image act))) (Good (length (answer image act)))
+    unfolding resultOf Execution.answered
+    result-is = e .result-is ∙ simp (same-code, same-parameters, ready, pick-true)
