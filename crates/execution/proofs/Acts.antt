@@ -1,6 +1,6 @@
 -- An act told apart: its answer is that of the act it is told to be, and so is the image after it.
-use Prim.Native.Nat.{ℕ, _+_, _-_, _≤_}
-use lib.ListN.{length, take, drop, length-drop}
+use Prim.Native.Nat.{ℕ, _-_}
+use lib.ListN.{length, drop, length-drop}
 use lib.Seq.{sets, take-all}
 use mathlib.Core.List.{List}
 use mathlib.Core.Path.{_≡_, ap, _∙_}

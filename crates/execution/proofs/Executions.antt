@@ -4,17 +4,20 @@ use borrow.Author.Tests.{le-leb, lt-leb}
 use lib.ListN.{length}
 use mathlib.Core.Bool.{true, false}
 use mathlib.Core.List.{List}
-use mathlib.Core.Path.{_≡_, ap, _∙_}
+use mathlib.Core.Path.{_≡_}
 use Rattle.frame.proofs.Picks.{pick-true, pick-false}
-use Rattle.frame.specs.Frames.{longestAnswer, written}
+use Rattle.frame.specs.Frames.{longestAnswer}
 use Rattle.tag.specs.Answers.{answer, changed, isError}
 use Rattle.tag.specs.Commands.{actOf}
 use Rattle.tag.specs.Image.{good}
 use Rattle.tag.specs.declared.commands.Act.{Act}
-use Rattle.execution.specs.Execution.{executable, imageAfter, outputAfter, answered, resultOf, Execution}
+use Rattle.execution.specs.Execution.{executable, imageAfter, outputAfter, reported, resultOf, Execution}
 use Rattle.execution.specs.Putting.{Answered}
-use Rattle.execution.specs.declared.execute.Executed.{Executed}
 use Rattle.execution.specs.declared.execute.Executed.the-variants.{Refused, Good, Error}
+
+pub runs : (image output : List ℕ) → 136 ≤ length output → good image ≡ true → executable image output ≡ true
+unfolding executable longestAnswer
+runs image output room h = simp (le-leb 136 (length output) room, h)
 
 module _ (image output : List ℕ) (code : ℕ) (p : List ℕ) where
   unexecuted : executable image output ≡ false → Execution image output code p image output Refused
@@ -37,23 +40,19 @@ module _ (image output : List ℕ) (code : ℕ) (p : List ℕ) where
         (imageLeft outputLeft : List ℕ) (n : ℕ)
         (writes : Answered (answer image act) output outputLeft n)
         (stores : imageLeft ≡ changed image p act) where
-      runs : executable image output ≡ true
-      unfolding executable longestAnswer
-      runs = simp (le-leb 136 (length output) room, h)
-
-      executed : Execution image output code p imageLeft outputLeft (answered act n)
+      executed : Execution image output code p imageLeft outputLeft (reported act n)
       unfolding imageAfter outputAfter resultOf
       executed =
           record {
-            image-is = simp (stores, judged, runs, pick-true);
-            output-is = simp (writes .output-is, judged, runs, pick-true);
-            result-is = simp (writes .length-is, judged, runs, pick-true);
+            image-is = simp (stores, judged, runs image output room h, pick-true);
+            output-is = simp (writes .output-is, judged, runs image output room h, pick-true);
+            result-is = simp (writes .length-is, judged, runs image output room h, pick-true);
           }
 
       pub executed-error : isError act ≡ true → Execution image output code p imageLeft outputLeft (Error n)
-      unfolding answered
+      unfolding reported
       executed-error e = simp (e, pick-true) at executed
 
       pub executed-good : isError act ≡ false → Execution image output code p imageLeft outputLeft (Good n)
-      unfolding answered
+      unfolding reported
       executed-good e = simp (e, pick-false) at executed

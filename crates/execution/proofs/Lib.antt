@@ -1,4 +1,5 @@
 pub mod Acts
+pub mod Callers
 pub mod Executions
 pub mod Pieces
 pub mod Reaches

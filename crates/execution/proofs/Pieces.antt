@@ -7,17 +7,18 @@ use mathlib.Core.List.{List, [], _∷_, _++_}
 use mathlib.Core.Path.{_≡_, refl, ap, _∙_}
 use native.Mathlib.Omega.{arith}
 use Rattle.crc.specs.Crc.{tagCrc}
-use Rattle.frame.proofs.Copies.{part-length, copied-is}
+use Rattle.frame.proofs.Copies.{length-part-inside, copied-is}
 use Rattle.frame.proofs.Numbers.{length-two-bytes}
 use Rattle.frame.specs.Bytes.{byte, part, twoBytes}
 use Rattle.frame.specs.Closing.{Closing}
 use Rattle.frame.specs.Copying.{copied}
 use Rattle.frame.specs.Frames.{frameOf}
+use Rattle.tag.proofs.AnswerBytes.{pc-and-epc-most, tail-most}
+use Rattle.tag.proofs.GoodImages.{good-facts}
 use Rattle.tag.specs.Answers.{pcAndEpc, tail, answer}
 use Rattle.tag.specs.Image.{good, rssi}
 use Rattle.tag.specs.declared.commands.Act.the-variants.{TagError, Notify, Give}
 use Rattle.execution.proofs.Rounds.{length-put, sets-join, set-join, closed-round}
-use Rattle.execution.proofs.Tails.{pc-and-epc-most, tail-most}
 use Rattle.execution.specs.Putting.{Put, Answered}
 
 module _ (output : List ℕ) (room : 136 ≤ length output) where
@@ -27,7 +28,7 @@ module _ (output : List ℕ) (room : 136 ≤ length output) where
 
   module _ (image : List ℕ) (h : good image ≡ true) where
     few : length (tail image) ≤ 65
-    few = tail-most image h
+    few = tail-most image (good-facts image h)
 
     pub tag-error-closed : (e : ℕ) (stored : List ℕ) (next : ℕ) → Put (tail image) 6 (set output 5 e) stored next
         → (after : List ℕ) (result : ℕ) → Closing 0x01 0xFF (next - 5) stored after result → Answered (answer image (TagError e)) output after result
@@ -52,7 +53,7 @@ module _ (output : List ℕ) (room : 136 ≤ length output) where
           → (after : List ℕ) (result : ℕ) → Closing 0x01 0x39 (next + n - 5) copies after result → Answered (answer image (Give at n)) output after result
       unfolding answer
       give-closed stored next put copies c =
-          let words : length (part image at n) ≡ n = part-length image at n there in
+          let words : length (part image at n) ≡ n = length-part-inside image at n there in
           let whole : length (tail image ++ part image at n) ≡ length (tail image) + length (part image at n) =
           length-append (tail image) (part image at n)
           in
@@ -80,5 +81,5 @@ module _ (output : List ℕ) (room : 136 ≤ length output) where
         let joined : sets stored next sum ≡ sets output 5 (byte image 23 ∷ piece) =
         rw (put .output-is, put .next-is, s) (sets-join (set output 5 (byte image 23)) 6 (pcAndEpc image) sum)
         in
-        closed-round 0x02 0x22 (byte image 23 ∷ piece) output (omega (arith, pc-and-epc-most image h)) room numbered
+        closed-round 0x02 0x22 (byte image 23 ∷ piece) output (omega (arith, pc-and-epc-most image (good-facts image h))) room numbered
         (two ∙ ap (λ (n : ℕ). sets stored next (twoBytes n)) worked ∙ joined) (next - 3) (omega (arith, put .next-is))

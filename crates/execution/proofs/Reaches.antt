@@ -1,5 +1,5 @@
 -- On a good image the bytes of a Read that is answered, and the room of a Write that stores, lie inside the image.
-use Prim.Native.Nat.{ℕ, _+_, _*_, _≤_}
+use Prim.Native.Nat.{ℕ, _*_, _≤_}
 use lib.ListN.{length}
 use mathlib.Core.Bool.{true}
 use mathlib.Core.List.{List}
@@ -8,7 +8,7 @@ use native.Mathlib.Omega.{arith}
 use Rattle.tag.proofs.Cases.{Reads, Writes, placeOf, act-cases}
 use Rattle.tag.proofs.GoodImages.{Good, good-facts}
 use Rattle.tag.proofs.Places.{Inside, inside, data-length}
-use Rattle.tag.specs.Commands.{countIn, dataIn, actOf}
+use Rattle.tag.specs.Commands.{countIn, actOf}
 use Rattle.tag.specs.Image.{good, view}
 use Rattle.tag.specs.declared.commands.Act.{Act}
 use Rattle.tag.specs.declared.commands.Act.the-variants.{PlainError, TagError, Notify, Give, Store, SetLocks, SetKilled}

@@ -1,15 +1,15 @@
 -- Pieces stored one behind the other join, and a frame closed round them is the frame written over the output as it was.
-use Prim.Native.Nat.{ℕ, zero, suc, _+_, _≤_}
-use lib.ListN.{length, set, drop, length-append}
+use Prim.Native.Nat.{ℕ, suc, _+_, _≤_}
+use lib.ListN.{length, set}
 use lib.Seq.{sets, length-sets}
 use mathlib.Core.List.{List, [], _∷_, _++_}
-use mathlib.Core.Path.{_≡_, refl, sym, ap, _∙_}
+use mathlib.Core.Path.{_≡_, ap, _∙_}
 use native.Mathlib.Omega.{arith}
 use Rattle.frame.proofs.Closings.{closed-is, closed-length-is}
 use Rattle.frame.proofs.FrameBytes.{length-frame}
 use Rattle.frame.proofs.Stores.{drop-sets-behind, part-sets}
 use Rattle.frame.specs.Bytes.{part}
-use Rattle.frame.specs.Closing.{Closing, closed, closedLength}
+use Rattle.frame.specs.Closing.{Closing}
 use Rattle.frame.specs.Frames.{frameOf, written}
 use Rattle.execution.specs.Putting.{Put, Answered}
 

@@ -3,12 +3,11 @@ use Prim.Native.Nat.{ℕ, suc, _+_, _*_, _/_, _-_, _≤_}
 use lib.ListN.{length, take, drop, set}
 use lib.Seq.{sets}
 use mathlib.Core.Bool.{true}
-use mathlib.Core.List.{List, _∷_}
-use mathlib.Core.Path.{_≡_, refl, sym, ap, _∙_}
+use mathlib.Core.List.{List}
+use mathlib.Core.Path.{_≡_, refl, ap, _∙_}
 use native.Mathlib.Numerals.{add-one}
 use native.Mathlib.Omega.{arith}
-use Rattle.crc.specs.Crc.{tagCrc}
-use Rattle.frame.proofs.Copies.{part-length, copied-is}
+use Rattle.frame.proofs.Copies.{length-part-inside, copied-is}
 use Rattle.frame.specs.Bytes.{part}
 use Rattle.frame.specs.Copying.{copied}
 use Rattle.tag.proofs.GoodImages.{Good, good-facts}
@@ -40,14 +39,7 @@ module _ (image : List ℕ) (h : good image ≡ true) where
   epc-is = refl
 
   length-epc : length (pcAndEpc image) ≡ epcBytes (view image)
-  length-epc = rw (← epc-is) (part-length image (epcFrom (view image)) (epcBytes (view image)) there)
-
-  pub pc-and-epc-most : length (pcAndEpc image) ≤ 64
-  pc-and-epc-most = omega (arith, length-epc, most)
-
-  pub tail-most : length (tail image) ≤ 65
-  unfolding tail
-  tail-most = omega (arith, pc-and-epc-most)
+  length-epc = rw (← epc-is) (length-part-inside image (epcFrom (view image)) (epcBytes (view image)) there)
 
   -- with the view read by whatever means
   module _ (v : View) (read : v ≡ view image) where

@@ -26,13 +26,13 @@ imageAfter image output code p = pick (executable image output) (changed image p
 unfoldable pub outputAfter : List ℕ → List ℕ → ℕ → List ℕ → List ℕ
 outputAfter image output code p = pick (executable image output) (written (answer image (actOf image code p)) output) output
 
--- an act's answer of n bytes, by whether it is an error
-unfoldable pub answered : Act → ℕ → Executed
-answered act n = pick (isError act) (Error n) (Good n)
+-- how an act with an answer of n bytes went, by whether it is an error
+unfoldable pub reported : Act → ℕ → Executed
+reported act n = pick (isError act) (Error n) (Good n)
 
 unfoldable pub resultOf : List ℕ → List ℕ → ℕ → List ℕ → Executed
 resultOf image output code p =
-    pick (executable image output) (answered (actOf image code p) (length (answer image (actOf image code p)))) Refused
+    pick (executable image output) (reported (actOf image code p) (length (answer image (actOf image code p)))) Refused
 
 -- what `execute` promises of the image and the output it was lent, those it leaves, and its result
 pub record Execution (image output : List ℕ) (code : ℕ) (p imageLeft outputLeft : List ℕ) (result : Executed) : Type 0 where

@@ -15,7 +15,7 @@ ghost use lib.ListN.{length};
 ghost use Rattle.frame.specs.Frames.{frameOf};
 ghost use Rattle.tag.specs.Answers.{tail, answer};
 ghost use Rattle.tag.specs.Image.{good};
-ghost use Rattle.tag.specs.declared.commands.Act.the-variants.{PlainError, TagError, Notify, Give};
+ghost use Rattle.tag.specs.declared.commands.Act.the-variants.{TagError, Notify, Give};
 ghost use Rattle.execution.specs.Putting.{Answered};
 
 // Code FF and one byte.

@@ -3,7 +3,6 @@ use Prim.Native.Nat.{ℕ, _+_, _≤_, _<_}
 use borrow.Author.Tests.{le-leb, lt-leb}
 use lib.ListN.{length, take, drop, set, getD, length-drop}
 use lib.Seq.{sets, sets-eq, paste, paste-suc, length-take-le, take-all, getD-take, getD-drop}
-use mathlib.Core.Bool.{true, false}
 use mathlib.Core.List.{List, _++_}
 use mathlib.Core.Path.{_≡_, sym, ap, _∙_}
 use native.Mathlib.Numerals.{add-one}
@@ -14,9 +13,9 @@ use Rattle.frame.proofs.Picks.{pick-true, pick-false}
 
 -- a part that is all there
 module _ (bytes : List ℕ) (i n : ℕ) (there : i + n ≤ length bytes) where
-  pub part-length : length (part bytes i n) ≡ n
+  pub length-part-inside : length (part bytes i n) ≡ n
   unfolding part
-  part-length = length-take-le n (drop i bytes) (omega (arith, length-drop i bytes))
+  length-part-inside = length-take-le n (drop i bytes) (omega (arith, length-drop i bytes))
 
   pub part-at : (k : ℕ) → k < n → getD (part bytes i n) k 0 ≡ getD bytes (i + k) 0
   unfolding part
@@ -41,11 +40,11 @@ module _ (from : List ℕ) (start n : ℕ) (to : List ℕ) (at : ℕ) where
           → set (paste to at (part from start n) i) (at + i) (getD from (start + i) 0) ≡ paste to at (part from start n) (i + 1)
       copied-more i more =
           rw (← part-at from start n there i more, add-one)
-          (paste-suc to at (part from start n) i 0 (omega arith) (omega (arith, part-length from start n there)))
+          (paste-suc to at (part from start n) i 0 (omega arith) (omega (arith, length-part-inside from start n there)))
 
       pub copied-whole : paste to at (part from start n) n ≡ copied from start n to at
       copied-whole =
-          let whole : length (part from start n) ≡ n = part-length from start n there in
+          let whole : length (part from start n) ≡ n = length-part-inside from start n there in
           ap (λ (l : List ℕ). take at to ++ l ++ drop (at + n) to) (take-all n (part from start n) (omega arith))
           ∙ ap (λ (k : ℕ). take at to ++ part from start n ++ drop (at + k) to) (sym whole)
           ∙ sym (sets-eq (part from start n) to at (omega arith))

@@ -2,7 +2,8 @@
 use lib.ListN.{length-set}
 use native.Mathlib.Omega.{arith}
 use Rattle.execution.proofs.Pieces.{done-closed}
-use Rattle.execution.proofs.Tails.{tail-most}
+use Rattle.tag.proofs.AnswerBytes.{tail-most}
+use Rattle.tag.proofs.GoodImages.{good-facts}
 use borrow.Author.Needs.{needs}
 use Rattle.execution.proofs.answers.done.Statement.{statement}
 use Rattle.execution.proofs.answers.done.Tie as tie
@@ -11,7 +12,7 @@ put-tail-requires : tie.Need-put-tail-requires
 put-tail-requires c κs = search needs
 
 slice-write-output : tie.Need-slice-write-output
-slice-write-output c = omega (arith, c .before .before .put-tail .ensures .next-is, tail-most (c .before .before .before .before .before .before .args .image .now) (c .before .before .before .before .before .before .pre .0))
+slice-write-output c = omega (arith, c .before .before .put-tail .ensures .next-is, tail-most (c .before .before .before .before .before .before .args .image .now) (good-facts (c .before .before .before .before .before .before .args .image .now) (c .before .before .before .before .before .before .pre .0)))
 
 sub-close : tie.Need-sub-close
 sub-close c = search needs

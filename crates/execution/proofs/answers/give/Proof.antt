@@ -1,7 +1,8 @@
 -- `give` meets its contract: the tail and the named bytes of the image, and the frame round them.
 use native.Mathlib.Omega.{arith}
 use Rattle.execution.proofs.Pieces.{give-closed}
-use Rattle.execution.proofs.Tails.{tail-most}
+use Rattle.tag.proofs.AnswerBytes.{tail-most}
+use Rattle.tag.proofs.GoodImages.{good-facts}
 use borrow.Author.Needs.{needs}
 use Rattle.execution.proofs.answers.give.Statement.{statement}
 use Rattle.execution.proofs.answers.give.Tie as tie
@@ -13,7 +14,7 @@ copy-requires : tie.Need-copy-requires
 copy-requires c κs = search needs
 
 add-close : tie.Need-add-close
-add-close c = omega (arith, c .before .before .before .before .before .before .before .put-tail .ensures .next-is, tail-most (c .before .before .before .before .before .before .before .before .before .before .before .args .image .now) (c .before .before .before .before .before .before .before .before .before .before .before .pre .0))
+add-close c = omega (arith, c .before .before .before .before .before .before .before .put-tail .ensures .next-is, tail-most (c .before .before .before .before .before .before .before .before .before .before .before .args .image .now) (good-facts (c .before .before .before .before .before .before .before .before .before .before .before .args .image .now) (c .before .before .before .before .before .before .before .before .before .before .before .pre .0)))
 
 sub-close : tie.Need-sub-close
 sub-close c = search needs

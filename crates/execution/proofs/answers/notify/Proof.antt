@@ -2,7 +2,8 @@
 use lib.ListN.{length-set}
 use native.Mathlib.Omega.{arith}
 use Rattle.execution.proofs.Pieces.{notify-closed}
-use Rattle.execution.proofs.Tails.{pc-and-epc-most}
+use Rattle.tag.proofs.AnswerBytes.{pc-and-epc-most}
+use Rattle.tag.proofs.GoodImages.{good-facts}
 use borrow.Author.Needs.{needs}
 use Rattle.execution.proofs.answers.notify.Statement.{statement}
 use Rattle.execution.proofs.answers.notify.Tie as tie
@@ -23,7 +24,7 @@ cast-put-number : tie.Need-cast-put-number
 cast-put-number c = search needs
 
 put-number-requires : tie.Need-put-number-requires
-put-number-requires c κs = omega (arith, c .before .before .before .before .put-pc-and-epc .ensures .next-is, pc-and-epc-most (c .before .before .before .before .before .before .before .before .before .args .image .now) (c .before .before .before .before .before .before .before .before .before .pre .0), length-set (c .before .before .before .before .before .before .before .before .before .args .output .now) 5 (c .before .before .before .before .before .before .byte-at .result))
+put-number-requires c κs = omega (arith, c .before .before .before .before .put-pc-and-epc .ensures .next-is, pc-and-epc-most (c .before .before .before .before .before .before .before .before .before .args .image .now) (good-facts (c .before .before .before .before .before .before .before .before .before .args .image .now) (c .before .before .before .before .before .before .before .before .before .pre .0)), length-set (c .before .before .before .before .before .before .before .before .before .args .output .now) 5 (c .before .before .before .before .before .before .byte-at .result))
 
 sub-close : tie.Need-sub-close
 sub-close c = search needs
