@@ -1,32 +1,32 @@
 -- The parts of a call: each test that refuses it, and what is found and answered, is the machine's step.
 use Prim.Native.Nat.{ℕ, _+_, _-_, _≤_, _<_}
-use borrow.Author.Tests.{lt-ltb, le-ltb, le-leb}
-use lib.Dec.{leb}
+use borrow.Author.Tests.{lt-ltb, le-ltb}
 use lib.ListN.{length, take, drop, getD, length-drop}
-use lib.Seq.{getD-drop, drop-drop}
-use mathlib.Core.Bool.{Bool, true, false}
+use lib.Seq.{getD-drop, drop-drop, take-all}
+use mathlib.Core.Bool.{true, false}
 use mathlib.Core.List.{List}
-use mathlib.Core.Path.{_≡_, refl, ap, ap₂, sym, _∙_}
+use mathlib.Core.Path.{_≡_, ap, ap₂, sym, subst₂, _∙_}
+use native.Mathlib.Nat.{add-assoc}
 use native.Mathlib.Omega.{arith}
 use Rattle.bench.proofs.Steps.{step-ready}
 use Rattle.bench.specs.Calls.{stateOf, left, stayed, Tested, Answerable, finding, answering}
-use Rattle.bench.specs.Counts.{full, withGood, withError}
-use Rattle.bench.specs.Machine.{State, call, unchanged, answered, counted, actIn, step, inputOf, restOf, afterFinding}
+use Rattle.bench.specs.Counts.{full, withGood, withError, withDropped}
+use Rattle.bench.specs.Machine.{State, call, unchanged, dropped, answered, counted, actIn, step, inputOf, restOf, afterFinding}
 use Rattle.bench.specs.declared.calling.Called.{Called}
 use Rattle.bench.specs.declared.outcome.Outcome.{Outcome}
-use Rattle.bench.specs.declared.outcome.Outcome.the-variants.{Answered, AtEnd, Incomplete, PastEnd, BadImage, ShortOutput, FullTally}
+use Rattle.bench.specs.declared.outcome.Outcome.the-variants.{Answered, AtEnd, Incomplete, Dropped, PastEnd, BadImage, ShortOutput, FullTally}
 use Rattle.bench.specs.declared.tally.Tally.{Tally}
-use Rattle.execution.specs.Execution as Execution
-use Rattle.execution.specs.Execution.{Execution, executable, imageAfter, outputAfter, resultOf}
+use Rattle.execution.proofs.Callers.{Ran, ran, told-refused, told-error, told-good}
+use Rattle.execution.specs.Execution.{Execution}
 use Rattle.execution.specs.declared.execute.Executed.{Executed}
 use Rattle.execution.specs.declared.execute.Executed.the-variants.{Refused, Good, Error}
 use Rattle.frame.proofs.Accepting.{accepted}
 use Rattle.frame.proofs.Picks.{pick-true, pick-false}
-use Rattle.frame.proofs.Tests.{and-both}
-use Rattle.frame.specs.Bytes.{pick, byte, part}
+use Rattle.frame.specs.Bytes.{byte, part}
 use Rattle.frame.specs.Finding.{find, codeIn, plIn, parametersIn}
 use Rattle.frame.specs.Frames.{frameLength, longestAnswer, written}
-use Rattle.frame.specs.declared.finding.Found.the-variants.{End, Wait}
+use Rattle.frame.specs.declared.finding.Found.{Found}
+use Rattle.frame.specs.declared.finding.Found.the-variants.{End, Drop, Wait, Accept}
 use Rattle.tag.specs.Answers.{answer, changed, isError}
 use Rattle.tag.specs.Commands.{actOf}
 use Rattle.tag.specs.Image.{good}
@@ -73,6 +73,26 @@ found input image output cursor tally t f =
     sym (step-ready (call input) (stateOf image output cursor tally)
     record { not-past = t .not-past; image-good = t .image-good; room = t .room; not-full = f })
 
+-- ---- what is found
+
+-- the input from the cursor on, as a part of the input and as the machine has it
+rest-whole : (input : List ℕ) (cursor : ℕ) → take (length input - cursor) (drop cursor input) ≡ drop cursor input
+rest-whole input cursor = take-all (length input - cursor) (drop cursor input) (omega (arith, length-drop cursor input))
+
+pub found-is : (input : List ℕ) (cursor : ℕ) (told kind : Found) → told ≡ find (take (length input - cursor) (drop cursor input)) → told ≡ kind
+    → find (drop cursor input) ≡ kind
+found-is input cursor told kind e k = ap find (sym (rest-whole input cursor)) ∙ sym e ∙ k
+
+pub drops : (input image output : List ℕ) (cursor : ℕ) (tally t : Tally) → t ≡ withDropped tally → find (drop cursor input) ≡ Drop
+    → left record { outcome = Dropped; length = 0; cursor = cursor + 1; tally = t } image output ≡ finding input (stateOf image output cursor tally)
+unfolding afterFinding dropped
+drops input image output cursor tally t e f = simp (e, f)
+
+pub accepts : (input image output : List ℕ) (cursor : ℕ) (tally : Tally) (pl : ℕ) → find (drop cursor input) ≡ Accept pl
+    → answering input (stateOf image output cursor tally) pl ≡ finding input (stateOf image output cursor tally)
+unfolding afterFinding
+accepts input image output cursor tally pl f = simp f
+
 -- ---- an accepted command
 
 module _ (input image output : List ℕ) (cursor : ℕ) (tally : Tally) (pl : ℕ) (a : Answerable input image output cursor pl) where
@@ -92,24 +112,36 @@ module _ (input image output : List ℕ) (cursor : ℕ) (tally : Tally) (pl : �
       let n : cursor + 5 + pl - (cursor + 5) ≡ plIn rest = omega (arith, accepted rest pl (a .accepts) .read) in
       ap₂ (λ (k : ℕ) (l : List ℕ). take k l) n (sym (drop-drop 5 cursor input))
 
-  ready : executable image output ≡ true
-  unfolding executable longestAnswer
-  ready = and-both (leb 136 (length output)) (good image) (le-leb 136 (length output) (a .tested .room)) (a .tested .image-good)
-
-  -- the act of the command, and the frame that answers it
   abbrev act : Act
   act = actOf image (codeIn rest) (parametersIn rest)
 
   module _ (code : ℕ) (p : List ℕ) (same-code : code ≡ codeIn rest) (same-parameters : p ≡ parametersIn rest)
       (image′ output′ : List ℕ) (executed : Executed) (e : Execution image output code p image′ output′ executed) where
-    image-is : image′ ≡ changed image (parametersIn rest) act
-    unfolding imageAfter
-    image-is = e .image-is ∙ simp (same-code, same-parameters, ready, pick-true)
+    done : Ran image output (parametersIn rest) act image′ output′ executed
+    done =
+        ran image output (codeIn rest) (parametersIn rest) image′ output′ executed (a .tested .image-good) (a .tested .room)
+        (subst₂ (λ (k : ℕ) (q : List ℕ). Execution image output k q image′ output′ executed) same-code same-parameters e)
 
-    output-is : output′ ≡ written (answer image act) output
-    unfolding outputAfter
-    output-is = e .output-is ∙ simp (same-code, same-parameters, ready, pick-true)
+    -- the call's result with a tally, and the machine's step
+    abbrev Meets : ℕ → Tally → Type 0
+    Meets n t = left record { outcome = Answered; length = n; cursor = cursor + 7 + pl; tally = t } image′ output′ ≡ answering input (stateOf image output cursor tally) pl
 
-    result-is : executed ≡ pick (isError act) (Error (length (answer image act))) (Good (length (answer image act)))
-    unfolding resultOf Execution.answered
-    result-is = e .result-is ∙ simp (same-code, same-parameters, ready, pick-true)
+    meets : (n : ℕ) (t : Tally) → n ≡ length (answer image act) → t ≡ counted act tally → Meets n t
+    unfolding answered actIn frameLength
+    meets n t same counts =
+        simp (same, counts, done .image-is, done .output-is, add-assoc cursor 7 pl)
+
+    pub answers-good : (n : ℕ) (t : Tally) → executed ≡ Good n → t ≡ withGood tally → Meets n t
+    unfolding counted
+    answers-good n t kind count =
+        let told : (isError act ≡ false) × (n ≡ length (answer image act)) = told-good act _ n (sym kind ∙ done .result-is) in
+        meets n t (told .1) (count ∙ sym (simp (told .0, pick-false)))
+
+    pub answers-error : (n : ℕ) (t : Tally) → executed ≡ Error n → t ≡ withError tally → Meets n t
+    unfolding counted
+    answers-error n t kind count =
+        let told : (isError act ≡ true) × (n ≡ length (answer image act)) = told-error act _ n (sym kind ∙ done .result-is) in
+        meets n t (told .1) (count ∙ sym (simp (told .0, pick-true)))
+
+    pub never-refused : executed ≡ Refused → ⊥
+    never-refused kind = told-refused act _ (sym kind ∙ done .result-is)

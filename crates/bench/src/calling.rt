@@ -41,12 +41,10 @@ fn answer(
     pl: usize,
 ) -> Called
     requires { ⌜ Answerable (now input) (now image) (now output) cursor pl ⌝ }
-    ensures {
-        λ r. ⌜
-            left r (now (image .exit)) (now (output .exit))
-            ≡ answering (now (input .entry)) (stateOf (now (image .entry)) (now (output .entry)) cursor tally) pl
-        ⌝
-    }
+    ensures { λ r. ⌜
+        left r (now (image .exit)) (now (output .exit))
+        ≡ answering (now (input .entry)) (stateOf (now (image .entry)) (now (output .entry)) cursor tally) pl
+        ⌝ }
 {
     let first = cursor + 5;
     let code = input[cursor + 2];
@@ -71,20 +69,12 @@ fn answer(
 }
 
 // The finding rules on the input from the cursor on.
-fn take(
-    input: &[u8],
-    image: &mut [u8],
-    output: &mut [u8],
-    cursor: usize,
-    tally: Tally,
-) -> Called
+fn take(input: &[u8], image: &mut [u8], output: &mut [u8], cursor: usize, tally: Tally) -> Called
     requires { ⌜ Tested (now input) (now image) (now output) cursor ⌝ }
-    ensures {
-        λ r. ⌜
-            left r (now (image .exit)) (now (output .exit))
-            ≡ finding (now (input .entry)) (stateOf (now (image .entry)) (now (output .entry)) cursor tally)
-        ⌝
-    }
+    ensures { λ r. ⌜
+        left r (now (image .exit)) (now (output .exit))
+        ≡ finding (now (input .entry)) (stateOf (now (image .entry)) (now (output .entry)) cursor tally)
+        ⌝ }
 {
     let found = find(&input[cursor..]);
     match found {
@@ -108,12 +98,10 @@ pub fn call(
     cursor: usize,
     tally: Tally,
 ) -> Called
-    ensures {
-        λ r. ⌜
-            left r (now (image .exit)) (now (output .exit))
-            ≡ step (aCall (now (input .entry))) (stateOf (now (image .entry)) (now (output .entry)) cursor tally)
-        ⌝
-    }
+    ensures { λ r. ⌜
+        left r (now (image .exit)) (now (output .exit))
+        ≡ step (aCall (now (input .entry))) (stateOf (now (image .entry)) (now (output .entry)) cursor tally)
+        ⌝ }
 {
     if input.len() < cursor {
         return stay(Outcome::PastEnd, cursor, tally);
