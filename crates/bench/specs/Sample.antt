@@ -1,5 +1,5 @@
--- Document 01, "The sample tag and its frames": the starred cases, each with all that its calls answer and leave.
-use Prim.Native.Nat.{ℕ, _-_}
+-- Document 01, "The sample tag and its frames": the starred cases, each with all that its call answers and leaves.
+use Prim.Native.Nat.{ℕ, zero, suc, _-_, _/_, _%_}
 use mathlib.Core.List.{List, [], _∷_, _++_}
 use lib.ListN.{length, replicate}
 use lib.Seq.{sets}
@@ -9,27 +9,28 @@ use Rattle.bench.specs.declared.outcome.Outcome.{Outcome}
 use Rattle.bench.specs.declared.outcome.Outcome.the-variants.{Answered, Incomplete, Dropped}
 use Rattle.bench.specs.declared.tally.Tally.{Tally}
 
--- "Total 86; offsets 24, 32, 48, 54; words 4, 8, 3, 16; locks 0; state 0; RSSI C9 (-55)."
-abbrev pub header : List ℕ
-header =
-    0x00 ∷ 0x01 ∷ 0x00 ∷ 86
-    ∷ 0x00 ∷ 4 ∷ 0x00 ∷ 24
-    ∷ 0x00 ∷ 8 ∷ 0x00 ∷ 32
-    ∷ 0x00 ∷ 3 ∷ 0x00 ∷ 48
-    ∷ 0x00 ∷ 16 ∷ 0x00 ∷ 54
-    ∷ 0x00 ∷ 0x00 ∷ 0 ∷ 0xC9 ∷ []
+-- n bytes, written as one number
+abbrev pub bytes : ℕ → ℕ → List ℕ
+bytes zero number = []
+bytes (suc n) number = bytes n (number / 256) ++ (number % 256 ∷ [])
 
--- "Both passwords 0000FFFF. EPC bank: 0000 3400 3075 1FEB 705C 5904 E3D5 0D70. TID all 0. User 1234 5678, then zeros."
-abbrev pub pcAndEpc : List ℕ
-pcAndEpc = 0x34 ∷ 0x00 ∷ 0x30 ∷ 0x75 ∷ 0x1F ∷ 0xEB ∷ 0x70 ∷ 0x5C ∷ 0x59 ∷ 0x04 ∷ 0xE3 ∷ 0xD5 ∷ 0x0D ∷ 0x70 ∷ []
-
+-- "Total 86; offsets 24, 32, 48, 54; words 4, 8, 3, 16; locks 0; state 0; RSSI C9 (-55). Both passwords 0000FFFF. EPC bank: 0000 3400
+-- 3075 1FEB 705C 5904 E3D5 0D70. TID all 0. User 1234 5678, then zeros."
 abbrev pub sample : List ℕ
 sample =
-    header
-    ++ (0x00 ∷ 0x00 ∷ 0xFF ∷ 0xFF ∷ 0x00 ∷ 0x00 ∷ 0xFF ∷ 0xFF ∷ [])
-    ++ (0x00 ∷ 0x00 ∷ pcAndEpc)
-    ++ replicate 6 0x00
-    ++ (0x12 ∷ 0x34 ∷ 0x56 ∷ 0x78 ∷ replicate 28 0x00)
+    bytes 24 0x0001_0056_0004_0018_0008_0020_0003_0030_0010_0036_0000_00_C9
+    ++ bytes 8 0x0000FFFF_0000FFFF
+    ++ bytes 16 0x0000_3400_3075_1FEB_705C_5904_E3D5_0D70
+    ++ replicate 6 0
+    ++ bytes 4 0x1234_5678
+    ++ replicate 28 0
+
+-- what a first Kill leaves, and the sample tag with a stored kill password of 0
+abbrev pub killed : List ℕ
+killed = sets sample 22 (1 ∷ [])
+
+abbrev pub noKillPassword : List ℕ
+noKillPassword = sets sample 24 (replicate 4 0)
 
 -- One call: "Each case starts afresh", with an output of 136 bytes, cursor 0 and a fresh tally; the call must end so, write this frame,
 -- and leave this image, cursor and counts.
@@ -66,75 +67,36 @@ oneError = record { good = 0; error = 1; dropped = 0 }
 abbrev pub oneDropped : Tally
 oneDropped = record { good = 0; error = 0; dropped = 1 }
 
--- the frames: Reads of User, a Write of User, Writes of EPC word 1, a Lock, a Kill
-abbrev pub readUser : ℕ → ℕ → List ℕ
-readUser pointer check =
-    0xBB ∷ 0x00 ∷ 0x39 ∷ 0x00 ∷ 0x09 ∷ 0x00 ∷ 0x00 ∷ 0xFF ∷ 0xFF ∷ 0x03 ∷ 0x00 ∷ pointer ∷ 0x00 ∷ 0x02 ∷ check ∷ 0x7E ∷ []
-
-abbrev pub writeUser : List ℕ
-writeUser =
-    0xBB ∷ 0x00 ∷ 0x49 ∷ 0x00 ∷ 0x0D ∷ 0x00 ∷ 0x00 ∷ 0xFF ∷ 0xFF ∷ 0x03 ∷ 0x00 ∷ 0x00 ∷ 0x00 ∷ 0x02
-    ∷ 0x12 ∷ 0x34 ∷ 0x56 ∷ 0x78 ∷ 0x6D ∷ 0x7E ∷ []
-
-abbrev pub writePc : ℕ → ℕ → List ℕ
-writePc high check =
-    0xBB ∷ 0x00 ∷ 0x49 ∷ 0x00 ∷ 0x0B ∷ 0x00 ∷ 0x00 ∷ 0xFF ∷ 0xFF ∷ 0x01 ∷ 0x00 ∷ 0x01 ∷ 0x00 ∷ 0x01 ∷ high ∷ 0x00 ∷ check ∷ 0x7E ∷ []
-
-abbrev pub lockAccess : List ℕ
-lockAccess = 0xBB ∷ 0x00 ∷ 0x82 ∷ 0x00 ∷ 0x07 ∷ 0x00 ∷ 0x00 ∷ 0xFF ∷ 0xFF ∷ 0x02 ∷ 0x00 ∷ 0x80 ∷ 0x09 ∷ 0x7E ∷ []
-
-abbrev pub kill : List ℕ
-kill = 0xBB ∷ 0x00 ∷ 0x65 ∷ 0x00 ∷ 0x04 ∷ 0x00 ∷ 0x00 ∷ 0xFF ∷ 0xFF ∷ 0x67 ∷ 0x7E ∷ []
-
--- the images that a first Kill leaves, and with a stored kill password of 0
-abbrev pub killed : List ℕ
-killed = sets sample 22 (1 ∷ [])
-
-abbrev pub noKillPassword : List ℕ
-noKillPassword = sets sample 24 (replicate 4 0x00)
-
--- the answers: with the tail and 00, a plain error, and a tag error
-abbrev pub doneFrame : ℕ → ℕ → List ℕ
-doneFrame code check = 0xBB ∷ 0x01 ∷ code ∷ 0x00 ∷ 0x10 ∷ 0x0E ∷ (pcAndEpc ++ (0x00 ∷ check ∷ 0x7E ∷ []))
-
-abbrev pub plainFrame : ℕ → ℕ → List ℕ
-plainFrame byte check = 0xBB ∷ 0x01 ∷ 0xFF ∷ 0x00 ∷ 0x01 ∷ byte ∷ check ∷ 0x7E ∷ []
-
-abbrev pub tagFrame : ℕ → ℕ → List ℕ
-tagFrame byte check = 0xBB ∷ 0x01 ∷ 0xFF ∷ 0x00 ∷ 0x10 ∷ byte ∷ 0x0E ∷ (pcAndEpc ++ (check ∷ 0x7E ∷ []))
-
-abbrev pub readFrame : List ℕ → ℕ → List ℕ
-readFrame words check = 0xBB ∷ 0x01 ∷ 0x39 ∷ 0x00 ∷ 0x13 ∷ 0x0E ∷ (pcAndEpc ++ words ++ (check ∷ 0x7E ∷ []))
-
 -- the starred cases, in the order of the paper
 abbrev pub cases : List Case
 cases =
-    case sample (0xBB ∷ 0x00 ∷ 0x22 ∷ 0x00 ∷ 0x00 ∷ 0x22 ∷ 0x7E ∷ []) Answered
-    (0xBB ∷ 0x02 ∷ 0x22 ∷ 0x00 ∷ 0x11 ∷ 0xC9 ∷ (pcAndEpc ++ (0x3A ∷ 0x76 ∷ 0xEF ∷ 0x7E ∷ []))) sample 7 oneGood
+    case sample (bytes 7 0xBB_00_22_00_00_22_7E) Answered (bytes 24 0xBB_02_22_00_11_C9_34_00_30_75_1F_EB_70_5C_59_04_E3_D5_0D_70_3A_76_EF_7E) sample 7 oneGood
     -- "gives check B0 and data 12 34 56 78"
-    ∷ case sample (readUser 0 0x45) Answered (readFrame (0x12 ∷ 0x34 ∷ 0x56 ∷ 0x78 ∷ []) 0xB0) sample 16 oneGood
+    ∷ case sample (bytes 16 0xBB_00_39_00_09_00_00_FF_FF_03_00_00_00_02_45_7E) Answered (bytes 26 0xBB_01_39_00_13_0E_34_00_30_75_1F_EB_70_5C_59_04_E3_D5_0D_70_12_34_56_78_B0_7E) sample 16 oneGood
     -- "The same frame with check 46: one byte dropped."
-    ∷ case sample (readUser 0 0x46) Dropped [] sample 1 oneDropped
-    -- "Pointer 14, count 2, User: good." "Pointer 15, count 2: A3, check 02."
-    ∷ case sample (readUser 14 0x53) Answered (readFrame (replicate 4 0x00) 0x9C) sample 16 oneGood
-    ∷ case sample (readUser 15 0x54) Answered (tagFrame 0xA3 0x02) sample 16 oneError
+    ∷ case sample (bytes 16 0xBB_00_39_00_09_00_00_FF_FF_03_00_00_00_02_46_7E) Dropped [] sample 1 oneDropped
+    -- "Pointer 14, count 2, User: good."
+    ∷ case sample (bytes 16 0xBB_00_39_00_09_00_00_FF_FF_03_00_0E_00_02_53_7E) Answered (bytes 26 0xBB_01_39_00_13_0E_34_00_30_75_1F_EB_70_5C_59_04_E3_D5_0D_70_00_00_00_00_9C_7E) sample 16 oneGood
+    -- "Pointer 15, count 2: A3, check 02."
+    ∷ case sample (bytes 16 0xBB_00_39_00_09_00_00_FF_FF_03_00_0F_00_02_54_7E) Answered (bytes 23 0xBB_01_FF_00_10_A3_0E_34_00_30_75_1F_EB_70_5C_59_04_E3_D5_0D_70_02_7E) sample 16 oneError
     -- "Read with password 00000001: 16, check 75."
-    ∷ case sample
-    (0xBB ∷ 0x00 ∷ 0x39 ∷ 0x00 ∷ 0x09 ∷ 0x00 ∷ 0x00 ∷ 0x00 ∷ 0x01 ∷ 0x03 ∷ 0x00 ∷ 0x00 ∷ 0x00 ∷ 0x02 ∷ 0x48 ∷ 0x7E ∷ [])
-    Answered (tagFrame 0x16 0x75) sample 16 oneError
-    -- "Write .. : PL 0010, check A9."
-    ∷ case sample writeUser Answered (doneFrame 0x49 0xA9) sample 20 oneGood
-    -- "Write of 3C00 to EPC word 1 (L 7, 8 words): B3, check 12. Of 3000: good."
-    ∷ case sample (writePc 0x3C 0x91) Answered (tagFrame 0xB3 0x12) sample 18 oneError
-    ∷ case sample (writePc 0x30 0x85) Answered (doneFrame 0x49 0xA9) (sets sample 34 (0x30 ∷ 0x00 ∷ [])) 18 oneGood
-    -- "lock bits become 0080, check E2"
-    ∷ case sample lockAccess Answered (doneFrame 0x82 0xE2) (sets sample 20 (0x00 ∷ 0x80 ∷ [])) 14 oneGood
-    -- "Kill with 0000FFFF: check C5; a second Kill: plain 12."
-    ∷ case sample kill Answered (doneFrame 0x65 0xC5) killed 11 oneGood
-    ∷ case killed kill Answered (plainFrame 0x12 0x13) killed 11 oneError
+    ∷ case sample (bytes 16 0xBB_00_39_00_09_00_00_00_01_03_00_00_00_02_48_7E) Answered (bytes 23 0xBB_01_FF_00_10_16_0E_34_00_30_75_1F_EB_70_5C_59_04_E3_D5_0D_70_75_7E) sample 16 oneError
+    -- "Write ..: PL 0010, check A9."
+    ∷ case sample (bytes 20 0xBB_00_49_00_0D_00_00_FF_FF_03_00_00_00_02_12_34_56_78_6D_7E) Answered (bytes 23 0xBB_01_49_00_10_0E_34_00_30_75_1F_EB_70_5C_59_04_E3_D5_0D_70_00_A9_7E) sample 20 oneGood
+    -- "Write of 3C00 to EPC word 1 (L 7, 8 words): B3, check 12."
+    ∷ case sample (bytes 18 0xBB_00_49_00_0B_00_00_FF_FF_01_00_01_00_01_3C_00_91_7E) Answered (bytes 23 0xBB_01_FF_00_10_B3_0E_34_00_30_75_1F_EB_70_5C_59_04_E3_D5_0D_70_12_7E) sample 18 oneError
+    -- "Of 3000: good."
+    ∷ case sample (bytes 18 0xBB_00_49_00_0B_00_00_FF_FF_01_00_01_00_01_30_00_85_7E) Answered (bytes 23 0xBB_01_49_00_10_0E_34_00_30_75_1F_EB_70_5C_59_04_E3_D5_0D_70_00_A9_7E) (sets sample 34 (bytes 2 0x30_00)) 18 oneGood
+    -- "Lock ..: lock bits become 0080, check E2."
+    ∷ case sample (bytes 14 0xBB_00_82_00_07_00_00_FF_FF_02_00_80_09_7E) Answered (bytes 23 0xBB_01_82_00_10_0E_34_00_30_75_1F_EB_70_5C_59_04_E3_D5_0D_70_00_E2_7E) (sets sample 20 (bytes 2 0x00_80)) 14 oneGood
+    -- "Kill with 0000FFFF: check C5"
+    ∷ case sample (bytes 11 0xBB_00_65_00_04_00_00_FF_FF_67_7E) Answered (bytes 23 0xBB_01_65_00_10_0E_34_00_30_75_1F_EB_70_5C_59_04_E3_D5_0D_70_00_C5_7E) killed 11 oneGood
+    -- "a second Kill: plain 12."
+    ∷ case killed (bytes 11 0xBB_00_65_00_04_00_00_FF_FF_67_7E) Answered (bytes 8 0xBB_01_FF_00_01_12_13_7E) killed 11 oneError
     -- "Stored kill password 0: D0, check 2F."
-    ∷ case noKillPassword kill Answered (tagFrame 0xD0 0x2F) noKillPassword 11 oneError
-    -- "`BB` alone: answer 2. Code 77 with PL 0: plain 17, check 18."
-    ∷ case sample (0xBB ∷ []) Incomplete [] sample 0 freshTally
-    ∷ case sample (0xBB ∷ 0x00 ∷ 0x77 ∷ 0x00 ∷ 0x00 ∷ 0x77 ∷ 0x7E ∷ []) Answered (plainFrame 0x17 0x18) sample 7 oneError
+    ∷ case noKillPassword (bytes 11 0xBB_00_65_00_04_00_00_FF_FF_67_7E) Answered (bytes 23 0xBB_01_FF_00_10_D0_0E_34_00_30_75_1F_EB_70_5C_59_04_E3_D5_0D_70_2F_7E) noKillPassword 11 oneError
+    -- "`BB` alone: answer 2."
+    ∷ case sample (bytes 1 0xBB) Incomplete [] sample 0 freshTally
+    -- "Code 77 with PL 0: plain 17, check 18."
+    ∷ case sample (bytes 7 0xBB_00_77_00_00_77_7E) Answered (bytes 8 0xBB_01_FF_00_01_17_18_7E) sample 7 oneError
     ∷ []
