@@ -1,27 +1,25 @@
 -- What a call answers, and what it leaves under each answer.
 use Prim.Native.Nat.{ℕ, _+_, _≤_}
-use lib.ListN.{length, take, drop, length-drop}
+use lib.ListN.{length, length-drop}
 use mathlib.Core.Bool.{Bool, true, false}
 use mathlib.Core.List.{List}
 use mathlib.Core.Logic.{_≢_}
-use mathlib.Core.Path.{_≡_, refl, ap, sym, _∙_}
+use mathlib.Core.Path.{_≡_, refl}
 use native.Mathlib.Omega.{arith}
 use Rattle.bench.proofs.Steps.{Ready, step-cases}
-use Rattle.bench.proofs.Tallies.{not-full-good, not-full-error, not-full-dropped, raised-below}
-use Rattle.bench.specs.Claims.{answerOf, firstOf, AnswerNumbers, NothingChanges, DropTakesOneByte, OneFrame, AnswerIsOneFrame}
+use Rattle.bench.proofs.Tallies.{not-full-dropped, raised-below}
+use Rattle.bench.specs.Claims.{firstOf, AnswerNumbers, NothingChanges, DropTakesOneByte, OneFrame, AnswerIsOneFrame}
 use Rattle.bench.specs.Counts.{full, limit}
 use Rattle.bench.specs.Machine.{State, Call, Step, numberOf, unchanged, dropped, answered, actIn, afterFinding, inputOf, restOf, step}
-use Rattle.bench.specs.declared.outcome.Outcome.{Outcome}
 use Rattle.frame.proofs.Accepting.{Accepted}
 use Rattle.frame.proofs.FrameBytes.{length-written, take-written, drop-written}
 use Rattle.frame.proofs.Picks.{pick-or, pick-not-both}
-use Rattle.frame.specs.Bytes.{pick, number}
+use Rattle.frame.specs.Bytes.{pick}
 use Rattle.frame.specs.Finding.{find, plIn, checkRight, endRight}
 use Rattle.frame.specs.Frames.{checkOf, frameLength, longestCommand, longestAnswer}
 use Rattle.frame.specs.declared.finding.Found.{Found}
 use Rattle.tag.proofs.AnswerBytes.{answer-most}
 use Rattle.tag.specs.Answers.{answer}
-use Rattle.tag.specs.Commands.{actOf}
 
 -- the number of a step, and the step after finding, go into a choice
 number-pick : (test : Bool) (x y : Step) → numberOf (pick test x y .outcome) ≡ pick test (numberOf (x .outcome)) (numberOf (y .outcome))

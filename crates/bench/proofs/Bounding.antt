@@ -3,21 +3,21 @@ use Prim.Native.Nat.{ℕ, zero, suc, _+_, _≤_, _<_}
 use borrow.Author.Tests.{ne-eqb}
 use lib.Dec.{eqb}
 use lib.ListN.{length, replicate, length-drop}
-use mathlib.Core.Bool.{Bool, true, false, _||_}
-use mathlib.Core.List.{List, [], _∷_}
+use mathlib.Core.Bool.{true, false}
+use mathlib.Core.List.{List}
 use mathlib.Core.Logic.{_⊎_, inl, inr, ⊎-elim}
-use mathlib.Core.Path.{_≡_, refl, ap, sym, _∙_}
+use mathlib.Core.Path.{_≡_, refl}
 use native.Mathlib.Omega.{arith}
 use Rattle.bench.proofs.Answering.{framed}
 use Rattle.bench.proofs.Steps.{Ready, ready-cases}
-use Rattle.bench.specs.Claims.{answerOf, start, count, takes, Bound}
+use Rattle.bench.specs.Claims.{answerOf, count, takes, Bound}
 use Rattle.bench.specs.Counts.{full, limit, raised, freshTally}
-use Rattle.bench.specs.Machine.{State, Call, call, Step, numberOf, unchanged, dropped, answered, counted, actIn, inputOf, restOf, step, run, after}
+use Rattle.bench.specs.Machine.{State, stateOf, call, Step, numberOf, unchanged, dropped, answered, counted, actIn, inputOf, restOf, step, run, after}
 use Rattle.bench.specs.declared.tally.Tally.{Tally}
 use Rattle.frame.proofs.Accepting.{Accepted}
 use Rattle.frame.proofs.Picks.{by-test}
 use Rattle.frame.specs.Bytes.{pick}
-use Rattle.frame.specs.Finding.{codeIn, parametersIn, plIn}
+use Rattle.frame.specs.Finding.{codeIn, parametersIn}
 use Rattle.frame.specs.Frames.{frameLength}
 use Rattle.tag.proofs.StaysGood.{stays-good}
 use Rattle.tag.specs.Answers as Answers
@@ -136,5 +136,5 @@ module _ (input : List ℕ) (small : length input < limit) where
 pub bound : Bound
 unfolding Within limit
 bound input image output small h room =
-    within input (omega arith) (length input) (start image output 0 freshTally)
+    within input (omega arith) (length input) (stateOf image output 0 freshTally)
     record { not-past = omega arith; image-good = h; room = room; few = omega arith } (omega arith)

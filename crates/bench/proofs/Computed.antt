@@ -2,14 +2,14 @@
 use Prim.Native.Nat.{ℕ}
 use lib.ListN.{replicate}
 use lib.Seq.{sets}
-use mathlib.Core.List.{List, [], _∷_, _++_}
+use mathlib.Core.List.{List, _++_}
 use mathlib.Core.Logic.{inl}
-use mathlib.Core.Path.{_≡_, refl}
+use mathlib.Core.Path.{refl}
 use native.Mathlib.Omega.{arith}
 use Rattle.bench.specs.Claims.{Starred, PremisesMet, Demand3CanBeMet}
 use Rattle.bench.specs.Counts.{limit, full, raised}
 use Rattle.bench.specs.Machine.{Call, call, numberOf, unchanged, dropped, counted, answered, actIn, afterFinding, inputOf, restOf, step, run}
-use Rattle.bench.specs.Sample.{sample}
+use Rattle.bench.specs.Sample.{bytes, sample}
 use Rattle.bench.specs.Secrecy.{passwordsAt, acceptedBy, accepted, carries, carriesNone, noneCarries}
 use Rattle.crc.specs.Crc.{leaving, shifted, added, bitStep, bitSteps, entered, byteStep, crc, tagCrc}
 use Rattle.frame.specs.Bytes.{pick, all, byte, number, double, twoBytes, part}
@@ -33,19 +33,19 @@ starred = refl
 
 -- the sample tag with both password regions locked, and the same with other passwords
 hidden : List ℕ
-hidden = sets sample 20 (0x02 ∷ 0x80 ∷ [])
+hidden = sets sample 20 (bytes 2 0x02_80)
 
 other : List ℕ
 unfolding hidden
-other = sets hidden 24 (0x11 ∷ 0x22 ∷ 0x33 ∷ 0x44 ∷ 0x55 ∷ 0x66 ∷ 0x77 ∷ 0x88 ∷ [])
+other = sets hidden 24 (bytes 8 0x11223344_55667788)
 
 -- a Read, a Write and a Lock with password 00000000, and a Kill with 00000001
 commands : List ℕ
 commands =
-    (0xBB ∷ 0x00 ∷ 0x39 ∷ 0x00 ∷ 0x09 ∷ 0x00 ∷ 0x00 ∷ 0x00 ∷ 0x00 ∷ 0x03 ∷ 0x00 ∷ 0x00 ∷ 0x00 ∷ 0x02 ∷ 0x47 ∷ 0x7E ∷ [])
-    ++ (0xBB ∷ 0x00 ∷ 0x49 ∷ 0x00 ∷ 0x0B ∷ 0x00 ∷ 0x00 ∷ 0x00 ∷ 0x00 ∷ 0x03 ∷ 0x00 ∷ 0x00 ∷ 0x00 ∷ 0x01 ∷ 0xDE ∷ 0xAD ∷ 0xE3 ∷ 0x7E ∷ [])
-    ++ (0xBB ∷ 0x00 ∷ 0x82 ∷ 0x00 ∷ 0x07 ∷ 0x00 ∷ 0x00 ∷ 0x00 ∷ 0x00 ∷ 0x02 ∷ 0x00 ∷ 0x80 ∷ 0x0B ∷ 0x7E ∷ [])
-    ++ (0xBB ∷ 0x00 ∷ 0x65 ∷ 0x00 ∷ 0x04 ∷ 0x00 ∷ 0x00 ∷ 0x00 ∷ 0x01 ∷ 0x6A ∷ 0x7E ∷ [])
+    bytes 16 0xBB_00_39_00_09_00_00_00_00_03_00_00_00_02_47_7E
+    ++ bytes 18 0xBB_00_49_00_0B_00_00_00_00_03_00_00_00_01_DE_AD_E3_7E
+    ++ bytes 14 0xBB_00_82_00_07_00_00_00_00_02_00_80_0B_7E
+    ++ bytes 11 0xBB_00_65_00_04_00_00_00_01_6A_7E
 
 calls : List Call
 unfolding commands

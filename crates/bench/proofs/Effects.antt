@@ -1,31 +1,30 @@
 -- What each command stores: all of it or nothing, on its own bytes alone.
-use Prim.Native.Nat.{ℕ, _+_, _*_, _≤_, _<_}
+use Prim.Native.Nat.{ℕ, _+_, _*_, _≤_}
 use lib.Dec.{eqb}
 use lib.ListN.{length}
 use lib.Seq.{sets}
-use mathlib.Core.Bool.{Bool, true, false, not, _&&_, true≢false}
+use mathlib.Core.Bool.{true, false, not, true≢false}
 use mathlib.Core.List.{List, [], _∷_}
-use mathlib.Core.Logic.{_⊎_, inl, inr, _≢_, ⊎-elim}
-use mathlib.Core.Path.{_≡_, refl, ap, sym, subst, _∙_}
+use mathlib.Core.Logic.{_≢_, ⊎-elim}
+use mathlib.Core.Path.{_≡_, refl, ap, sym, _∙_}
 use borrow.Author.Tests.{eqb-true, not-true}
 use native.Mathlib.Omega.{arith}
-use Rattle.bench.proofs.Steps.{Ready, step-cases}
+use Rattle.bench.proofs.Steps.{step-cases}
 use Rattle.bench.specs.Claims.{Overwritten, Effect, NamedWords, WriteEffect, LockEffect, KillEffect, NoOtherEffect, GapsStay, pairsAfter, isGood, isError}
 use Rattle.bench.specs.Machine.{State, Call, Step, numberOf, unchanged, dropped, answered, actIn, restOf, step}
-use Rattle.frame.proofs.Accepting.{Accepted}
 use Rattle.frame.proofs.Numbers.{length-two-bytes}
 use Rattle.frame.proofs.Stores.{take-sets, drop-sets-behind, part-sets, byte-sets-before, byte-sets-behind}
-use Rattle.frame.proofs.Tests.{and-left, and-right}
+use Rattle.frame.proofs.Tests.{and-left}
 use Rattle.frame.specs.Bytes.{byte, twoBytes}
 use Rattle.frame.specs.Finding.{codeIn, parametersIn}
 use Rattle.tag.proofs.AnswerBytes.{error-code}
-use Rattle.tag.proofs.Cases.{Writes, placeOf, newBits, act-cases}
+use Rattle.tag.proofs.Cases.{placeOf, newBits, act-cases}
 use Rattle.tag.proofs.GoodImages.{good-facts, header-there}
 use Rattle.tag.proofs.Places.{Inside, inside, data-length}
-use Rattle.tag.specs.Answers.{answer, changed}
+use Rattle.tag.specs.Answers.{changed}
 use Rattle.tag.specs.Answers as Answers
-use Rattle.tag.specs.Commands.{bankIn, pointerIn, countIn, dataIn, actOf}
-use Rattle.tag.specs.Image.{good, view, bankOf, wordAt, endOf}
+use Rattle.tag.specs.Commands.{bankIn, countIn, dataIn}
+use Rattle.tag.specs.Image.{good, view, wordAt, endOf}
 use Rattle.tag.specs.Locks.{pairs, bitsOf, breaksPermalock}
 use Rattle.tag.specs.declared.commands.Act.{Act}
 

@@ -1,13 +1,11 @@
 -- Lists of calls: the counts of a run, and the image after it.
 use Prim.Native.Nat.{ℕ, _+_}
 use borrow.Author.Tests.{ne-eqb}
-use lib.Dec.{eqb}
-use mathlib.Core.Bool.{Bool, true, false, not, _&&_}
+use mathlib.Core.Bool.{Bool, true, false, not}
 use mathlib.Core.List.{List, [], _∷_}
 use mathlib.Core.Logic.{_≢_}
-use mathlib.Core.Path.{_≡_, refl, ap, sym, subst, _∙_}
+use mathlib.Core.Path.{_≡_, _∙_}
 use native.Mathlib.Nat.{add-zero, add-assoc}
-use native.Mathlib.Omega.{arith}
 use Rattle.bench.proofs.Effects.{error-is, good-is, image-after}
 use Rattle.bench.proofs.Steps.{step-cases}
 use Rattle.bench.proofs.Tallies.{not-full-good, not-full-error, not-full-dropped, raised-below}
@@ -17,11 +15,10 @@ use Rattle.bench.specs.Machine.{State, Call, Step, numberOf, unchanged, 
 use Rattle.bench.specs.declared.tally.Tally.{Tally}
 use Rattle.bench.specs.declared.outcome.Outcome.{Outcome}
 use Rattle.frame.proofs.Picks.{pick-true, pick-false}
-use Rattle.frame.specs.Bytes.{pick, byte}
+use Rattle.frame.specs.Bytes.{pick}
 use Rattle.frame.specs.Finding.{codeIn, parametersIn}
 use Rattle.tag.proofs.StaysGood.{stays-good}
 use Rattle.tag.specs.Answers as Answers
-use Rattle.tag.specs.Commands.{actOf}
 use Rattle.tag.specs.Image.{good}
 use Rattle.tag.specs.declared.commands.Act.{Act}
 

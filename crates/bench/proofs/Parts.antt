@@ -9,9 +9,9 @@ use mathlib.Core.Path.{_≡_, ap, ap₂, sym, subst₂, _∙_}
 use native.Mathlib.Nat.{add-assoc}
 use native.Mathlib.Omega.{arith}
 use Rattle.bench.proofs.Steps.{step-ready}
-use Rattle.bench.specs.Calls.{stateOf, left, stayed, Tested, Answerable, finding, answering}
+use Rattle.bench.specs.Calls.{left, stayed, Tested, Answerable, finding, answering}
 use Rattle.bench.specs.Counts.{full, withGood, withError, withDropped}
-use Rattle.bench.specs.Machine.{State, call, unchanged, dropped, answered, counted, actIn, step, inputOf, restOf, afterFinding}
+use Rattle.bench.specs.Machine.{State, stateOf, call, unchanged, dropped, answered, counted, actIn, step, inputOf, restOf, afterFinding}
 use Rattle.bench.specs.declared.calling.Called.{Called}
 use Rattle.bench.specs.declared.outcome.Outcome.{Outcome}
 use Rattle.bench.specs.declared.outcome.Outcome.the-variants.{Answered, AtEnd, Incomplete, Dropped, PastEnd, BadImage, ShortOutput, FullTally}
@@ -24,10 +24,10 @@ use Rattle.frame.proofs.Accepting.{accepted}
 use Rattle.frame.proofs.Picks.{pick-true, pick-false}
 use Rattle.frame.specs.Bytes.{byte, part}
 use Rattle.frame.specs.Finding.{find, codeIn, plIn, parametersIn}
-use Rattle.frame.specs.Frames.{frameLength, longestAnswer, written}
+use Rattle.frame.specs.Frames.{frameLength, longestAnswer}
 use Rattle.frame.specs.declared.finding.Found.{Found}
 use Rattle.frame.specs.declared.finding.Found.the-variants.{End, Drop, Wait, Accept}
-use Rattle.tag.specs.Answers.{answer, changed, isError}
+use Rattle.tag.specs.Answers.{answer, isError}
 use Rattle.tag.specs.Commands.{actOf}
 use Rattle.tag.specs.Image.{good}
 use Rattle.tag.specs.declared.commands.Act.{Act}

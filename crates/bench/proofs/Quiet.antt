@@ -1,33 +1,31 @@
 -- Commands that carry no password of a hidden image: they find the tag open or wrong, never secured; so their act is the same for both
 -- images, and nothing of it touches the password bytes.
-use Prim.Native.Nat.{ℕ, zero, suc, _+_, _*_, _/_, _%_, _≤_, _<_}
-use borrow.Author.Tests.{eqb-true, eqb-false, eq-eqb, ne-eqb, le-leb, lt-ltb, le-ltb, ltb-true, ltb-false, not-true}
+use Prim.Native.Nat.{ℕ, _+_, _/_, _%_, _≤_}
+use borrow.Author.Tests.{eqb-true, eqb-false, eq-eqb, ne-eqb, le-leb, lt-ltb, ltb-false, not-true}
 use lib.Dec.{eqb, leb, ltb}
 use lib.ListN.{length}
 use mathlib.Core.Bool.{Bool, true, false, not, _&&_, _||_, true≢false}
 use mathlib.Core.List.{List}
-use mathlib.Core.Logic.{_⊎_, _≢_, ⊎-elim}
+use mathlib.Core.Logic.{_≢_, ⊎-elim}
 use mathlib.Core.Path.{_≡_, refl, ap, ap₂, sym, subst, _∙_}
 use native.Mathlib.Omega.{arith}
-use Rattle.bench.proofs.Twins.{same-view}
-use Rattle.bench.specs.Secrecy.{passwordsAt, EqualElsewhere, Locked, Hidden, Command, carries, carriesNone}
+use Rattle.bench.specs.Secrecy.{passwordsAt, Locked, Hidden, Command, carries, carriesNone}
 use Rattle.frame.proofs.Picks.{pick-true, pick-false, by-test}
 use Rattle.frame.proofs.Tests.{and-left, and-right, and-second, or-neither, either}
 use Rattle.frame.specs.Bytes.{pick, double}
-use Rattle.tag.proofs.Cases.{Aimed, Reads, Writes, placeOf, act-cases, parse-cases}
+use Rattle.tag.proofs.Cases.{Aimed, act-cases, parse-cases}
 use Rattle.tag.proofs.GoodImages.{Good, good-facts}
 use Rattle.tag.proofs.Places.{inside}
-use Rattle.tag.specs.Commands.{passwordIn, bankIn, pointerIn, countIn, dataIn, ldIn, aimRight, parse, verdict, actOf, inventoryVerdict, readVerdict, writeVerdict, lockVerdict, killVerdict}
+use Rattle.tag.specs.Commands.{passwordIn, bankIn, pointerIn, countIn, dataIn, ldIn, verdict, actOf, inventoryVerdict, readVerdict, writeVerdict, lockVerdict, killVerdict}
 use Rattle.tag.specs.Image.{good, view, bankOf, killPassword, accessPassword}
 use Rattle.tag.specs.Locks.{pairs, standingOf, standing, isSecured, killStandingOf, killStanding, allows, touches, mayTouchPasswords, mayRead, mayWrite}
 use Rattle.tag.specs.declared.commands.Act.{Act}
 use Rattle.tag.specs.declared.commands.Act.the-variants.{PlainError, TagError, Notify, Give, Store, SetLocks, SetKilled}
 use Rattle.tag.specs.declared.commands.Command.{Command as Parsed}
 use Rattle.tag.specs.declared.image.View.{View}
-use Rattle.tag.specs.declared.locks.KillStanding.{KillStanding}
 use Rattle.tag.specs.declared.locks.KillStanding.the-variants.{Equal, Different}
 use Rattle.tag.specs.declared.locks.Standing.{Standing}
-use Rattle.tag.specs.declared.locks.Standing.the-variants.{Secured, Open, Wrong}
+use Rattle.tag.specs.declared.locks.Standing.the-variants.{Open, Wrong}
 
 -- ---- what a command does not carry
 

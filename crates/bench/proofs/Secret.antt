@@ -1,39 +1,37 @@
 -- Demand 3: two runs on images that differ only in hidden passwords, with no command that carries one, are the same call by call.
-use Prim.Native.Nat.{ℕ, _+_, _-_, _*_, _≤_, _<_}
-use borrow.Author.Tests.{ltb-false, not-false, eqb-true}
-use lib.Dec.{eqb, leb, ltb}
+use Prim.Native.Nat.{ℕ, _+_, _-_, _≤_, _<_}
+use borrow.Author.Tests.{ltb-false, not-false}
+use lib.Dec.{ltb}
 use lib.ListN.{length, take, drop}
 use lib.Seq.{sets}
-use mathlib.Core.Bool.{Bool, true, false, not, _&&_, _||_}
+use mathlib.Core.Bool.{true, not}
 use mathlib.Core.List.{List, [], _∷_, _++_}
-use mathlib.Core.Logic.{_⊎_, inl, inr, _≢_, ⊎-elim}
+use mathlib.Core.Logic.{_⊎_, inl, inr, ⊎-elim}
 use mathlib.Core.Path.{_≡_, refl, ap, ap₂, sym, subst, _∙_}
 use native.Mathlib.Omega.{arith}
-use Rattle.bench.proofs.Quiet.{Kept, Public, Untold, untold, public-act, same-act}
+use Rattle.bench.proofs.Quiet.{Kept, Public, untold, public-act, same-act}
 use Rattle.bench.proofs.Steps.{Ready, step-ready}
 use Rattle.bench.proofs.Twins.{part-behind, same-view, same-rssi, same-epc, same-tail}
-use Rattle.bench.specs.Claims.{start, Premises, Demand3}
+use Rattle.bench.specs.Claims.{Demand3}
 use Rattle.bench.specs.Counts.{full}
-use Rattle.bench.specs.Machine.{State, Call, Step, numberOf, unchanged, dropped, answered, counted, actIn, afterFinding, inputOf, restOf, step, run}
+use Rattle.bench.specs.Machine.{State, stateOf, Call, Step, numberOf, unchanged, dropped, answered, counted, actIn, afterFinding, inputOf, restOf, step, run}
 use Rattle.bench.specs.Secrecy.{passwordsAt, EqualElsewhere, Hidden, Command, acceptedBy, accepted, carriesNone, noneCarries, SameCall, Throughout}
 use Rattle.bench.specs.declared.outcome.Outcome.{Outcome}
-use Rattle.bench.specs.declared.outcome.Outcome.the-variants.{Answered, PastEnd, BadImage, ShortOutput, FullTally}
-use Rattle.bench.specs.declared.tally.Tally.{Tally}
+use Rattle.bench.specs.declared.outcome.Outcome.the-variants.{PastEnd, BadImage, ShortOutput, FullTally}
 use Rattle.crc.specs.Crc.{tagCrc}
-use Rattle.frame.proofs.Accepting.{Accepted, accepted as accepting}
 use Rattle.frame.proofs.Picks.{pick-true, pick-false}
-use Rattle.frame.proofs.Stores.{take-sets, drop-sets, byte-sets-before, number-sets-before}
+use Rattle.frame.proofs.Stores.{take-sets, drop-sets, number-sets-before}
 use Rattle.frame.proofs.Tests.{either, and-left, and-right, and-both}
-use Rattle.frame.specs.Bytes.{pick, all, number, double, part, twoBytes}
+use Rattle.frame.specs.Bytes.{all, number, double, part, twoBytes}
 use Rattle.frame.specs.Finding.{find, codeIn, parametersIn}
-use Rattle.frame.specs.Frames.{frameOf, frameLength, longestAnswer, written}
+use Rattle.frame.specs.Frames.{frameOf, longestAnswer, written}
 use Rattle.frame.specs.declared.finding.Found.{Found}
 use Rattle.frame.specs.declared.finding.Found.the-variants.{End, Drop, Wait, Accept}
 use Rattle.tag.proofs.GoodImages.{Good, good-facts}
 use Rattle.tag.proofs.StaysGood.{stays-good}
-use Rattle.tag.specs.Answers.{pcAndEpc, tail, answer, changed}
-use Rattle.tag.specs.Commands.{passwordIn, dataIn, actOf}
-use Rattle.tag.specs.Image.{good, view, bankAt, rssi, killPassword, accessPassword}
+use Rattle.tag.specs.Answers.{answer, changed}
+use Rattle.tag.specs.Commands.{dataIn, actOf}
+use Rattle.tag.specs.Image.{good, view, bankAt, killPassword, accessPassword}
 use Rattle.tag.specs.declared.commands.Act.{Act}
 use Rattle.tag.specs.declared.image.View.{View}
 use Rattle.tag.specs.declared.commands.Act.the-variants.{PlainError, TagError, Notify, Give, Store, SetLocks, SetKilled}
@@ -288,7 +286,7 @@ same-runs a b ha hb (c ∷ calls) s j t quiet =
 pub demand3 : Demand3
 unfolding passwordsAt
 demand3 a b output cursor tally calls pre =
-    same-runs a b (pre .first-hidden) (pre .second-hidden) calls (start a output cursor tally) b
+    same-runs a b (pre .first-hidden) (pre .second-hidden) calls (stateOf a output cursor tally) b
     record {
       first =
           record { kept = record { image-good = pre .first-good; place = refl; kill = refl; access = refl; locks = refl }; bytes = refl };

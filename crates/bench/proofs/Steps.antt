@@ -1,5 +1,5 @@
 -- One step, by cases: nothing changes, a byte is dropped, or a command is answered; and the step where no test 10 to 13 refuses.
-use Prim.Native.Nat.{ℕ, _+_, _≤_}
+use Prim.Native.Nat.{ℕ, _≤_}
 use borrow.Author.Tests.{ltb-false, le-ltb, not-false}
 use lib.Dec.{ltb}
 use lib.ListN.{length}
@@ -10,7 +10,7 @@ use native.Mathlib.Omega.{arith}
 use Rattle.bench.specs.Counts.{full}
 use Rattle.bench.specs.Machine.{State, Call, Step, numberOf, unchanged, dropped, answered, actIn, afterFinding, inputOf, restOf, step}
 use Rattle.bench.specs.declared.outcome.Outcome.{Outcome}
-use Rattle.bench.specs.declared.outcome.Outcome.the-variants.{Answered, AtEnd, Incomplete, Dropped, PastEnd, BadImage, ShortOutput, FullTally}
+use Rattle.bench.specs.declared.outcome.Outcome.the-variants.{AtEnd, Incomplete, PastEnd, BadImage, ShortOutput, FullTally}
 use Rattle.frame.proofs.Accepting.{Accepted}
 use Rattle.frame.proofs.Finds.{find-cases}
 use Rattle.frame.proofs.Picks.{by-test, pick-false}

@@ -1,26 +1,19 @@
 -- Document 01's tables: lock pairs, regions, standings, new pairs, and the permalock rule.
-use Prim.Native.Nat.{ℕ, _+_, _*_, _/_, _%_, _≤_, _<_}
+use Prim.Native.Nat.{ℕ, _+_, _*_, _/_, _%_, _<_}
 use borrow.Author.Tests.{eq-eqb, ne-eqb, eqb-true, lt-ltb, not-false}
-use lib.Dec.{eqb, ltb}
-use mathlib.Core.Bool.{Bool, true, false, not, _&&_, _||_}
+use lib.Dec.{eqb}
+use mathlib.Core.Bool.{Bool, false, not, _||_}
 use mathlib.Core.List.{List}
-use mathlib.Core.Logic.{_≢_}
-use mathlib.Core.Path.{_≡_, refl, ap, sym, _∙_}
+use mathlib.Core.Path.{_≡_, refl, sym}
 use native.Mathlib.Nat.{div-div-eq-div-mul}
 use native.Mathlib.Omega.{arith}
 use Rattle.bench.proofs.Effects.{lock-keeps}
-use Rattle.bench.specs.Claims.{PairBits, LockTable, Regions, RangeBeforeLock, Standings, NewPair, Permalocks, PermalockRule, isGood}
-use Rattle.bench.specs.Machine.{State, Call, step, restOf, actIn}
+use Rattle.bench.specs.Claims.{PairBits, LockTable, Regions, RangeBeforeLock, Standings, NewPair, Permalocks, PermalockRule}
 use Rattle.frame.proofs.Picks.{pick-true, pick-false}
 use Rattle.frame.proofs.Tests.{and-second, and-true, or-neither}
 use Rattle.frame.specs.Bytes.{pick}
-use Rattle.frame.specs.Finding.{codeIn, parametersIn}
-use Rattle.tag.proofs.Cases.{Locks, act-cases}
-use Rattle.tag.specs.Answers as Answers
-use Rattle.tag.specs.Commands.{ldIn, actOf, gone, outside, readVerdict, writeVerdict}
-use Rattle.tag.specs.Image.{view, bankOf}
-use Rattle.tag.specs.Locks.{pairs, permalocked, standingOf, isSecured, isWrong, allows, touches, mayTouchPasswords, mayRead, mayWrite, newBit, newPair, newPairs, breaks, breaksPermalock}
-use Rattle.tag.specs.declared.commands.Act.{Act}
+use Rattle.tag.specs.Commands.{outside, readVerdict, writeVerdict}
+use Rattle.tag.specs.Locks.{pairs, permalocked, standingOf, isSecured, allows, touches, mayTouchPasswords, mayRead, mayWrite, newBit, newPair, breaks, breaksPermalock}
 use Rattle.tag.specs.declared.image.View.{View}
 use Rattle.tag.specs.declared.locks.Pairs.{Pairs}
 use Rattle.tag.specs.declared.locks.Standing.{Standing}

@@ -2,16 +2,15 @@
 -- the passwords.
 use Prim.Native.Nat.{ℕ, _+_, _-_, _*_, _≤_, _<_}
 use lib.ListN.{length, take, drop, getD}
-use lib.Seq.{getD-take, getD-drop, drop-drop, sets}
-use mathlib.Core.Bool.{true}
-use mathlib.Core.List.{List, _∷_, _++_}
-use mathlib.Core.Path.{_≡_, refl, ap, ap₂, sym, _∙_}
+use lib.Seq.{getD-take, getD-drop, drop-drop}
+use mathlib.Core.List.{List, _∷_}
+use mathlib.Core.Path.{_≡_, ap, ap₂, sym, _∙_}
 use native.Mathlib.Omega.{arith}
 use Rattle.bench.specs.Secrecy.{EqualElsewhere, passwordsAt}
 use Rattle.frame.specs.Bytes.{byte, number, part}
-use Rattle.tag.proofs.GoodImages.{Good, good-facts}
+use Rattle.tag.proofs.GoodImages.{Good}
 use Rattle.tag.specs.Answers.{pcAndEpc, tail}
-use Rattle.tag.specs.Image.{good, view, bankAt, rssi, wordAt, epcLength}
+use Rattle.tag.specs.Image.{view, bankAt, rssi, wordAt, epcLength}
 use Rattle.tag.specs.declared.image.View.{View}
 
 module _ (at : ℕ) (x y : List ℕ) (e : EqualElsewhere at x y) where

@@ -4,16 +4,13 @@ use mathlib.Core.Bool.{true}
 use mathlib.Core.List.{List}
 use mathlib.Core.Path.{_≡_}
 use lib.ListN.{length, drop}
-use Rattle.bench.specs.Machine.{State, Step, answered, actIn, afterFinding}
+use Rattle.bench.specs.Machine.{State, stateOf, Step, answered, actIn, afterFinding}
 use Rattle.bench.specs.declared.calling.Called.{Called}
 use Rattle.bench.specs.declared.outcome.Outcome.{Outcome}
 use Rattle.bench.specs.declared.tally.Tally.{Tally}
 use Rattle.frame.specs.Finding.{find}
 use Rattle.frame.specs.declared.finding.Found.the-variants.{Accept}
 use Rattle.tag.specs.Image.{good}
-
-abbrev pub stateOf : List ℕ → List ℕ → ℕ → Tally → State
-stateOf image output cursor tally = record { image = image; output = output; cursor = cursor; tally = tally }
 
 abbrev pub left : Called → List ℕ → List ℕ → Step
 left r image output = record { outcome = r .outcome; length = r .length; next = stateOf image output (r .cursor) (r .tally) }

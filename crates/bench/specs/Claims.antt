@@ -8,9 +8,9 @@ use mathlib.Core.Path.{_≡_}
 use lib.Dec.{eqb, leb, ltb}
 use lib.ListN.{length, take, drop, replicate}
 use Rattle.bench.specs.Counts.{freshTally}
-use Rattle.bench.specs.Machine.{State, Call, call, Step, numberOf, inputOf, restOf, actIn, step, run, after}
+use Rattle.bench.specs.Machine.{State, stateOf, Call, call, Step, numberOf, inputOf, restOf, actIn, step, run, after}
 use Rattle.bench.specs.Sample.{cases, given, expected}
-use Rattle.bench.specs.Secrecy.{passwordsAt, EqualElsewhere, Hidden, Command, accepted, noneCarries, SameCall, Throughout}
+use Rattle.bench.specs.Secrecy.{passwordsAt, EqualElsewhere, Hidden, accepted, noneCarries, SameCall, Throughout}
 use Rattle.bench.specs.declared.tally.Tally.{Tally}
 use Rattle.frame.specs.Bytes.{pick, byte, number, part, twoBytes}
 use Rattle.frame.specs.Finding.{codeIn, parametersIn}
@@ -34,9 +34,6 @@ codeOf c s = codeIn (restOf c s)
 
 abbrev pub parametersOf : Call → State → List ℕ
 parametersOf c s = parametersIn (restOf c s)
-
-abbrev pub start : List ℕ → List ℕ → ℕ → Tally → State
-start image output cursor tally = record { image = image; output = output; cursor = cursor; tally = tally }
 
 -- ---- Demand 1: every call ends with one named answer
 
@@ -140,9 +137,9 @@ Bound =
     → 136 ≤ length output
     → (k : ℕ)
     × (k ≤ length input)
-    × (count takes (run (replicate k (call input)) (start image output 0 freshTally)) ≡ k)
-    × ((answerOf (call input) (after (replicate k (call input)) (start image output 0 freshTally)) ≡ 1)
-    ⊎ (answerOf (call input) (after (replicate k (call input)) (start image output 0 freshTally)) ≡ 2))
+    × (count takes (run (replicate k (call input)) (stateOf image output 0 freshTally)) ≡ k)
+    × ((answerOf (call input) (after (replicate k (call input)) (stateOf image output 0 freshTally)) ≡ 1)
+    ⊎ (answerOf (call input) (after (replicate k (call input)) (stateOf image output 0 freshTally)) ≡ 2))
 
 -- ---- Demand 2: each command has its effect and answer
 
@@ -291,8 +288,8 @@ pub record Premises (a b output : List ℕ) (cursor : ℕ) (tally : Tally) (call
   pub differ-only : EqualElsewhere (passwordsAt a) a b
   pub first-hidden : Hidden a
   pub second-hidden : Hidden b
-  pub first-run : noneCarries a b (accepted calls (start a output cursor tally)) ≡ true
-  pub second-run : noneCarries a b (accepted calls (start b output cursor tally)) ≡ true
+  pub first-run : noneCarries a b (accepted calls (stateOf a output cursor tally)) ≡ true
+  pub second-run : noneCarries a b (accepted calls (stateOf b output cursor tally)) ≡ true
 
 -- "Then every call of the list gives the same answer number and length in both runs, and leaves the same output bytes, cursor and
 -- counts. The password bytes stay in each run as they were, and the images stay equal elsewhere." For a list of calls of any length.
@@ -300,14 +297,14 @@ abbrev pub Demand3 : Type 0
 Demand3 =
     (a b output : List ℕ) (cursor : ℕ) (tally : Tally) (calls : List Call)
     → Premises a b output cursor tally calls
-    → Throughout (SameCall a b) (run calls (start a output cursor tally)) (run calls (start b output cursor tally))
+    → Throughout (SameCall a b) (run calls (stateOf a output cursor tally)) (run calls (stateOf b output cursor tally))
 
 -- The premises can be met, by images that do differ, with an accepted Read, Write, Lock and Kill.
 pub record PremisesMet (a b output : List ℕ) (calls : List Call) : Type 0 where
   pub premises : Premises a b output 0 freshTally calls
   pub kill-differs : killPassword a ≢ killPassword b
   pub access-differs : accessPassword a ≢ accessPassword b
-  pub four-commands : map (λ m. m .code) (accepted calls (start a output 0 freshTally)) ≡ 0x39 ∷ 0x49 ∷ 0x82 ∷ 0x65 ∷ []
+  pub four-commands : map (λ m. m .code) (accepted calls (stateOf a output 0 freshTally)) ≡ 0x39 ∷ 0x49 ∷ 0x82 ∷ 0x65 ∷ []
 
 abbrev pub Demand3CanBeMet : Type 0
 Demand3CanBeMet = (a : List ℕ) × (b : List ℕ) × (output : List ℕ) × (calls : List Call) × PremisesMet a b output calls

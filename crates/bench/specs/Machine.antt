@@ -1,6 +1,6 @@
 -- Document 01, "Demand 2's machine": a state, one step for each call, and the run of a list of calls.
 use Prim.Native.Nat.{ℕ, _+_}
-use mathlib.Core.Bool.{Bool, not}
+use mathlib.Core.Bool.{not}
 use mathlib.Core.List.{List, [], _∷_}
 use lib.Dec.{ltb}
 use lib.ListN.{length, drop}
@@ -24,6 +24,9 @@ pub record State : Type 0 where
   pub output : List ℕ
   pub cursor : ℕ
   pub tally : Tally
+
+abbrev pub stateOf : List ℕ → List ℕ → ℕ → Tally → State
+stateOf image output cursor tally = record { image = image; output = output; cursor = cursor; tally = tally }
 
 -- "A list of calls feeds it the input bytes of each call."
 pub data Call : Type 0 where

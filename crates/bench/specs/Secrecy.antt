@@ -7,7 +7,6 @@ use mathlib.Core.Path.{_≡_}
 use lib.Dec.{eqb, leb}
 use lib.ListN.{length, take, drop}
 use Rattle.bench.specs.Machine.{State, Call, Step, numberOf, step, restOf}
-use Rattle.bench.specs.declared.tally.Tally.{Tally}
 use Rattle.frame.specs.Bytes.{pick, all, double, part}
 use Rattle.frame.specs.Finding.{codeIn, parametersIn}
 use Rattle.tag.specs.Image.{view, killPassword, accessPassword}

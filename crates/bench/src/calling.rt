@@ -7,8 +7,8 @@ use frame::finding::Found;
 use frame::finding::find;
 use tag::good::is_good;
 ghost use mathlib.Core.Path.{_≡_};
-ghost use Rattle.bench.specs.Calls.{stateOf, left, stayed, Tested, Answerable, finding, answering};
-ghost use Rattle.bench.specs.Machine.{call as aCall, step};
+ghost use Rattle.bench.specs.Calls.{left, stayed, Tested, Answerable, finding, answering};
+ghost use Rattle.bench.specs.Machine.{call as aCall, stateOf, step};
 
 // What a call hands back beside the image and the output: how it ended, the length of the frame written, and the next cursor and
 // tally.

@@ -2,11 +2,11 @@
 use Prim.Native.Nat.{ℕ, _+_, _≤_}
 use lib.ListN.{length, take, drop, length-append, length-take, length-drop}
 use lib.Seq.{take-append-seam, drop-append-seam}
-use mathlib.Core.List.{List, [], _∷_, _++_}
-use mathlib.Core.Path.{_≡_, refl, _∙_}
+use mathlib.Core.List.{List}
+use mathlib.Core.Path.{_≡_, refl}
 use native.Mathlib.Omega.{arith}
 use Rattle.frame.specs.Bytes.{byte, twoBytes, part}
-use Rattle.frame.specs.Frames.{checked, checkOf, frameOf, written}
+use Rattle.frame.specs.Frames.{checked, frameOf, written}
 
 pub length-frame : (type code : ℕ) (p : List ℕ) → length (frameOf type code p) ≡ 7 + length p
 unfolding frameOf checked twoBytes

@@ -1,12 +1,12 @@
 -- Laws of a run of stores, `sets l i vs`: what stands before it and behind it stays, and in it stand the new bytes.
 use Prim.Native.Nat.{ℕ, zero, suc, _+_, _≤_, _<_}
 use lib.ListN.{length, take, drop, set, length-set}
-use lib.Seq.{sets, sets-eq, length-sets, take-set-le, drop-set-lt, drop-set-add, getD-set-same, getD-set-other, take-at, drop-at, length-take-le}
+use lib.Seq.{sets, sets-eq, take-set-le, drop-set-lt, drop-set-add, getD-set-same, getD-set-other, take-at, drop-at, length-take-le}
 use mathlib.Core.List.{List, [], _∷_, _++_, append-assoc}
 use mathlib.Core.Path.{_≡_, refl, sym, ap, _∙_}
 use native.Mathlib.Nat.{add-suc}
 use native.Mathlib.Omega.{arith}
-use Rattle.frame.specs.Bytes.{byte, number, double, part}
+use Rattle.frame.specs.Bytes.{byte, number, part}
 
 -- ---- parts of the list
 

@@ -1,18 +1,17 @@
 -- Answer frames: no longer than 136 bytes, and code FF exactly for an error.
 use Prim.Native.Nat.{ℕ, _+_, _*_, _≤_}
-use borrow.Author.Tests.{eq-eqb}
 use lib.Dec.{eqb}
 use lib.ListN.{length, length-append}
-use mathlib.Core.Bool.{Bool, true}
+use mathlib.Core.Bool.{true}
 use mathlib.Core.List.{List, [], _∷_, _++_}
-use mathlib.Core.Path.{_≡_, refl, ap, _∙_}
+use mathlib.Core.Path.{_≡_}
 use native.Mathlib.Omega.{arith}
 use Rattle.crc.specs.Crc.{tagCrc}
 use Rattle.frame.proofs.FrameBytes.{length-frame, code-frame, length-part}
 use Rattle.frame.proofs.Numbers.{length-two-bytes}
 use Rattle.frame.specs.Bytes.{byte, part, twoBytes}
 use Rattle.frame.specs.Frames.{frameOf, written}
-use Rattle.tag.proofs.Cases.{Reads, placeOf, act-cases}
+use Rattle.tag.proofs.Cases.{placeOf, act-cases}
 use Rattle.tag.proofs.GoodImages.{Good, good-facts}
 use Rattle.tag.specs.Answers.{pcAndEpc, tail, answer, isError}
 use Rattle.tag.specs.Commands.{countIn, actOf}

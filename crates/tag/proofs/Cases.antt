@@ -3,7 +3,7 @@ use Prim.Native.Nat.{ℕ, _+_, _*_, _/_, _%_, _≤_}
 use borrow.Author.Tests.{eqb-true, leb-true, ltb-false, not-false}
 use lib.Dec.{eqb, leb, ltb}
 use lib.ListN.{length}
-use mathlib.Core.Bool.{Bool, true, false, not, _&&_}
+use mathlib.Core.Bool.{true, false, not, _&&_}
 use mathlib.Core.List.{List}
 use mathlib.Core.Path.{_≡_, refl}
 use Rattle.frame.proofs.Picks.{by-test}

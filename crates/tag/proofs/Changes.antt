@@ -1,12 +1,11 @@
 -- What a store does to the view of an image: a Write can change only the PC in it, a Lock the lock bits, a Kill the state.
-use Prim.Native.Nat.{ℕ, _+_, _/_, _%_, _*_, _≤_, _<_}
-use lib.ListN.{length}
+use Prim.Native.Nat.{ℕ, _+_, _≤_}
 use lib.Seq.{sets, length-sets}
-use mathlib.Core.List.{List, [], _∷_}
-use mathlib.Core.Path.{_≡_, ap, _∙_, refl}
+use mathlib.Core.List.{List}
+use mathlib.Core.Path.{_≡_}
 use native.Mathlib.Omega.{arith}
-use Rattle.frame.proofs.Stores.{byte-sets-before, byte-sets-behind, byte-sets-in, number-sets-before, number-sets-behind, number-sets-in}
-use Rattle.frame.specs.Bytes.{byte, number, twoBytes}
+use Rattle.frame.proofs.Stores.{number-sets-before}
+use Rattle.frame.specs.Bytes.{byte, number}
 use Rattle.tag.specs.Image.{view, bankAt}
 use Rattle.tag.specs.declared.image.View.{View}
 

@@ -1,5 +1,5 @@
 -- Bounds of lock pairs and of the bits that they make.
-use Prim.Native.Nat.{ℕ, _+_, _*_, _/_, _%_, _<_}
+use Prim.Native.Nat.{ℕ, _/_, _%_, _<_}
 use lib.Dec.{eqb}
 use native.Mathlib.Omega.{arith}
 use Rattle.frame.proofs.Picks.{by-test}

@@ -1,8 +1,8 @@
 -- Where the banks of a good image lie, and where the named words of a Read or a Write lie in them.
-use Prim.Native.Nat.{ℕ, zero, suc, _+_, _-_, _*_, _≤_, _<_}
-use lib.ListN.{length, drop, length-drop}
+use Prim.Native.Nat.{ℕ, zero, suc, _+_, _*_, _≤_}
+use lib.ListN.{length, length-drop}
 use mathlib.Core.List.{List}
-use mathlib.Core.Path.{_≡_, ap, _∙_}
+use mathlib.Core.Path.{_≡_, _∙_}
 use native.Mathlib.Omega.{arith}
 use Rattle.frame.specs.Bytes.{pick}
 use Rattle.tag.proofs.Cases.{Aimed, placeOf, Writes}

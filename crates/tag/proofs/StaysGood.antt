@@ -1,18 +1,18 @@
 -- Whatever a command does, a good image stays good.
-use Prim.Native.Nat.{ℕ, _+_, _-_, _*_, _/_, _%_, _≤_, _<_}
-use borrow.Author.Tests.{leb-true, leb-false, ltb-true, ltb-false, eqb-true, le-leb, lt-ltb}
-use lib.Dec.{eqb, leb, ltb}
+use Prim.Native.Nat.{ℕ, _+_, _-_, _*_, _%_, _≤_, _<_}
+use borrow.Author.Tests.{leb-true, leb-false, ltb-true, ltb-false, le-leb, lt-ltb}
+use lib.Dec.{leb, ltb}
 use lib.ListN.{length}
 use lib.Seq.{sets}
-use mathlib.Core.Bool.{Bool, true, false, _&&_}
+use mathlib.Core.Bool.{true, false}
 use mathlib.Core.List.{List, [], _∷_}
-use mathlib.Core.Path.{_≡_, ap, sym, subst, _∙_, refl}
+use mathlib.Core.Path.{_≡_, ap, sym, subst, _∙_}
 use native.Mathlib.Omega.{arith}
 use Rattle.frame.proofs.Numbers.{byte-one, number-two-bytes, length-two-bytes}
 use Rattle.frame.proofs.Stores.{byte-sets-before, byte-sets-behind, byte-sets-in, number-sets-before, number-sets-behind, number-sets-in}
 use Rattle.frame.proofs.Tests.{either}
 use Rattle.frame.specs.Bytes.{byte, number, twoBytes}
-use Rattle.tag.proofs.Cases.{Aimed, Writes, placeOf, newBits, act-cases}
+use Rattle.tag.proofs.Cases.{Writes, placeOf, newBits, act-cases}
 use Rattle.tag.proofs.Places.{Inside, inside, bank-cases, data-length}
 use Rattle.tag.proofs.Changes.{changedView, view-sets}
 use Rattle.tag.proofs.GoodImages.{Good, good-facts, good-holds}
@@ -20,7 +20,6 @@ use Rattle.tag.proofs.LockPairs.{pairs-small, new-pairs-small, bits-sma
 use Rattle.tag.specs.Answers.{changed}
 use Rattle.tag.specs.Commands.{bankIn, pointerIn, countIn, dataIn, ldIn, lengthBroken, actOf}
 use Rattle.tag.specs.Image.{good, view, bankAt, bankOf, wordAt, epcLength}
-use Rattle.tag.specs.Locks.{pairs, newPairs}
 use Rattle.tag.specs.declared.commands.Act.{Act}
 use Rattle.tag.specs.declared.image.Bank.{Bank}
 use Rattle.tag.specs.declared.image.View.{View}

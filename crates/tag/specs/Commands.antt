@@ -1,7 +1,7 @@
 -- Document 01, "The commands, checks in order". A command is parsed from its code and parameters alone, and here all
 -- plain 17 answers fall. Then a verdict, which sees no password byte, gives the act.
 use Prim.Native.Nat.{ℕ, _+_, _-_, _*_, _/_, _%_}
-use mathlib.Core.Bool.{Bool, true, not, _&&_}
+use mathlib.Core.Bool.{Bool, not, _&&_}
 use mathlib.Core.List.{List}
 use lib.Dec.{eqb, leb, ltb}
 use lib.ListN.{length, drop}

@@ -1,7 +1,6 @@
 -- `raise` meets its contract: each arm is the choice of `raised` under its test.
 use borrow.Author.Needs.{needs}
 use borrow.Author.Tests.{eq-eqb, ne-eqb}
-use mathlib.Core.Path.{_≡_, sym}
 use Rattle.bench.proofs.tally.raise.Statement.{statement}
 use Rattle.bench.proofs.tally.raise.Tie as tie
 use Rattle.bench.specs.Counts.{raised, limit}
