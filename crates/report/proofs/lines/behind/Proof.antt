@@ -1,0 +1,15 @@
+use Rattle.report.proofs.lines.behind.Statement.{statement}
+use Rattle.report.proofs.lines.behind.Tie as tie
+use Rattle.report.proofs.lines.behind.Reads as reads
+use Rattle.report.proofs.lines.behind.Lts as lts
+
+-- src/lines.rt:75:9
+returns : tie.Need-returns
+returns c = ?
+
+-- src/lines.rt:70:1
+returns-2 : tie.Need-returns-2
+returns-2 c = ?
+
+pub behind-spec : {M : Type 1} → statement M
+behind-spec = tie.close (tie.spec returns returns-2)
