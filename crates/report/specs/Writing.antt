@@ -1,11 +1,47 @@
 -- What the functions that write the report promise.
-use Prim.Native.Nat.{ℕ, _+_, _≤_, _<_}
-use mathlib.Core.List.{List}
+use Prim.Native.Nat.{ℕ, _+_, _-_, _≤_, _<_}
+use mathlib.Core.Bool.{true, false}
+use mathlib.Core.List.{List, _++_}
+use mathlib.Core.Path.{_≡_}
+use lib.ListN.{length, take, drop, replicate}
+use Rattle.bench.specs.Calls.{stateOf}
+use Rattle.bench.specs.Counts.{freshTally}
+use Rattle.bench.specs.Machine.{State, call, Step, step, after}
+use Rattle.bench.specs.declared.calling.Called.{Called}
+use Rattle.bench.specs.declared.outcome.Outcome.the-variants.{Answered}
 use Rattle.execution.specs.Putting.{Put}
-use Rattle.report.specs.Lines.{longestLine}
+use Rattle.frame.specs.Bytes.{byte}
+use Rattle.report.specs.Lines.{longestLine, lineFor, lineOf, ends}
+use Rattle.report.specs.Report.{reportFrom}
+use Rattle.report.specs.declared.writing.Progress.{Progress}
 
 -- a whole line stands at `at`, and the result is the place behind it
 pub record Line (line : List ℕ) (at : ℕ) (before after : List ℕ) (next : ℕ) : Type 0 where
   pub put : Put line at before after next
   pub some : at < next
   pub most : next ≤ at + longestLine
+
+-- ---- one call and its line
+
+-- a frame that a call answered with has a length, and stands in the output; the line has room
+pub record Framed (length most : ℕ) : Type 0 where
+  pub some : 0 < length
+  pub at-most-136 : length ≤ 136
+  pub there : length ≤ most
+
+pub record Printable (r : Called) (output buffer : List ℕ) (at : ℕ) : Type 0 where
+  pub framed : r .outcome ≡ Answered → Framed (r .length) (length output)
+  pub room : at + longestLine ≤ length buffer
+
+abbrev pub Printed : List ℕ → ℕ → Called → List ℕ → ℕ → List ℕ → List ℕ → ℕ → Type 0
+Printed input cursor r output at before after next =
+    Line (lineFor (r .outcome) (take (r .length) output) (byte input cursor) (r .tally) (length input - r .cursor)) at before after next
+
+-- ---- a piece of the report
+
+-- the state that a report goes on from
+abbrev pub standing : List ℕ → List ℕ → Progress → State
+standing image output p = stateOf image output (p .cursor) (p .tally)
+
+abbrev pub started : Progress
+started = record { cursor = 0; tally = freshTally; over = false }

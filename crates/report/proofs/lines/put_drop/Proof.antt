@@ -1,3 +1,6 @@
+-- `put_drop` meets its contract: the word, the byte and the newline.
+use Rattle.report.proofs.LinePuts.{drop-put}
+use Rattle.report.specs.Lines.{dropWord}
 use borrow.Author.Needs.{needs}
 use Rattle.report.proofs.lines.put_drop.Statement.{statement}
 use Rattle.report.proofs.lines.put_drop.Tie as tie
@@ -24,7 +27,8 @@ same-length c = search needs
 
 -- src/lines.rt:61:1
 returns : tie.Need-returns
-returns c = ?
+unfolding dropWord
+returns c = drop-put _ _ _ _ _ _ _ (c .before .before .before .before .before .before .put-text .ensures) (c .before .before .put-hex .ensures)
 
 pub put-drop-spec : {M : Type 1} → statement M
 put-drop-spec =

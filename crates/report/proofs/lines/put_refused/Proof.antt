@@ -1,3 +1,7 @@
+-- `put_refused` meets its contract: the word, the number and the newline.
+use native.Mathlib.Omega.{arith}
+use Rattle.report.proofs.LinePuts.{refused-put}
+use Rattle.report.specs.Lines.{refusedWord}
 use borrow.Author.Needs.{needs}
 use Rattle.report.proofs.lines.put_refused.Statement.{statement}
 use Rattle.report.proofs.lines.put_refused.Tie as tie
@@ -27,7 +31,10 @@ same-length c = search needs
 
 -- src/lines.rt:52:1
 returns : tie.Need-returns
-returns c = ?
+unfolding refusedWord
+returns c =
+    let count = c .before .before .put-count .ensures in
+    refused-put _ _ _ _ _ (count .0) (omega (arith, count .1))
 
 pub put-refused-spec : {M : Type 1} → statement M
 put-refused-spec =

@@ -1,3 +1,7 @@
+-- `put_tally` meets its contract: the three counts behind each other.
+use native.Mathlib.Omega.{arith}
+use Rattle.report.proofs.LinePuts.{tally-put}
+use Rattle.report.specs.Lines.{goodWord, errorWord, droppedWord}
 use borrow.Author.Needs.{needs}
 use Rattle.report.proofs.lines.put_tally.Statement.{statement}
 use Rattle.report.proofs.lines.put_tally.Tie as tie
@@ -47,7 +51,15 @@ same-length c = search needs
 
 -- src/lines.rt:32:1
 returns : tie.Need-returns
-returns c = ?
+unfolding goodWord errorWord droppedWord
+returns c =
+    let third = c .before .before in
+    let second = third .before .before .before .before .before .before in
+    let first = second .before .before .before .before .before .before in
+    let t = first .before .before .before .before .before .args .tally in (
+      tally-put _ _ t _ _ _ _ _ _ (first .put-count .ensures .0) (second .put-count2 .ensures .0) (third .put-count3 .ensures .0),
+      omega (arith, first .put-count .ensures .1, second .put-count2 .ensures .1, third .put-count3 .ensures .1),
+    )
 
 pub put-tally-spec : {M : Type 1} → statement M
 put-tally-spec =

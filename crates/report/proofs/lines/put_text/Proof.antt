@@ -1,3 +1,5 @@
+-- `put_text` meets its contract: the text is copied whole.
+use Rattle.report.proofs.LinePuts.{text-put}
 use borrow.Author.Needs.{needs}
 use Rattle.report.proofs.lines.put_text.Statement.{statement}
 use Rattle.report.proofs.lines.put_text.Tie as tie
@@ -19,7 +21,7 @@ same-length c = search needs
 
 -- src/lines.rt:13:1
 returns : tie.Need-returns
-returns c = ?
+returns c = text-put _ _ _ _ (c .before .before .before .before .before .before .pre) (c .before .before .copy .ensures)
 
 pub put-text-spec : {M : Type 1} → statement M
 put-text-spec = tie.close (tie.spec copy-requires add-result same-length returns)
