@@ -1,3 +1,4 @@
+pub mod CallLines
 pub mod Decimals
 pub mod HexPuts
 pub mod LinePuts

@@ -14,6 +14,7 @@ use Rattle.frame.specs.Bytes.{byte}
 use Rattle.report.specs.Lines.{longestLine, lineFor, lineOf, ends}
 use Rattle.report.specs.Report.{reportFrom}
 use Rattle.report.specs.declared.writing.Progress.{Progress}
+use Rattle.report.specs.declared.writing.Written.{Written}
 
 -- a whole line stands at `at`, and the result is the place behind it
 pub record Line (line : List ℕ) (at : ℕ) (before after : List ℕ) (next : ℕ) : Type 0 where
@@ -45,3 +46,9 @@ standing image output p = stateOf image output (p .cursor) (p .tally)
 
 abbrev pub started : Progress
 started = record { cursor = 0; tally = freshTally; over = false }
+
+-- one call is made, its line stands at `at`, and the state is the one that the call leaves
+pub record OneLine (input : List ℕ) (s : State) (at : ℕ) (before after : List ℕ) (next : State) (r : Written) : Type 0 where
+  pub line : Line (lineOf input s (step (call input) s)) at before after (r .used)
+  pub next-is : next ≡ step (call input) s .next
+  pub over-is : r .progress .over ≡ ends (step (call input) s .outcome)

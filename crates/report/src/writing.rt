@@ -9,9 +9,10 @@ use bench::outcome::Outcome;
 use bench::tally::Tally;
 use frame::bytes::byte_at;
 ghost use mathlib.Core.Path.{_≡_};
-ghost use Prim.Native.Nat.{_-_};
-ghost use Rattle.report.specs.Lines.{ends};
-ghost use Rattle.report.specs.Writing.{started, Printable, Printed};
+ghost use Prim.Native.Nat.{_+_, _-_, _≤_};
+ghost use lib.ListN.{length};
+ghost use Rattle.report.specs.Lines.{longestLine, ends};
+ghost use Rattle.report.specs.Writing.{started, Printable, Printed, standing, OneLine};
 
 // Where a report stands between two pieces, beside the image and the output.
 pub struct Progress {
@@ -97,5 +98,37 @@ fn put_line(
         Outcome::BadImage => put_refused(buffer, at, 11),
         Outcome::ShortOutput => put_refused(buffer, at, 12),
         Outcome::FullTally => put_refused(buffer, at, 13),
+    }
+}
+
+// One call, and its line at `at`.
+fn write_line(
+    input: &[u8],
+    image: &mut [u8],
+    output: &mut [u8],
+    buffer: &mut [u8],
+    at: usize,
+    progress: Progress,
+) -> Written
+    requires { ⌜ at + longestLine ≤ length (now buffer) ⌝ }
+    ensures { λ r. ⌜
+        OneLine (now (input .entry)) (standing (now (image .entry)) (now (output .entry)) progress) at (now (buffer .entry)) (now (buffer .exit))
+        (standing (now (image .exit)) (now (output .exit)) (r .progress)) r
+        ⌝ }
+{
+    let cursor = progress.cursor;
+    let tally = progress.tally;
+    let called = call(input, image, output, cursor, tally);
+    let used = put_line(input, cursor, output, called, buffer, at);
+    let next = called.tally;
+    let outcome = called.outcome;
+    Written {
+        room: Room::Enough,
+        used,
+        progress: Progress {
+            cursor: called.cursor,
+            tally: next,
+            over: is_last(outcome),
+        },
     }
 }

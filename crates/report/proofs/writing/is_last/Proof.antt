@@ -1,3 +1,5 @@
+-- `is_last` meets its contract: one answer for each outcome.
+use Rattle.report.specs.Lines.{ends}
 use borrow.Author.Needs.{needs}
 use Rattle.report.proofs.writing.is_last.Statement.{statement}
 use Rattle.report.proofs.writing.is_last.Tie as tie
@@ -38,35 +40,43 @@ enum-told-8 c = search needs
 
 -- src/writing.rt:61:1
 returns : tie.Need-returns
-returns c = ?
+unfolding ends
+returns c = rw (c .enum-told .given .1)
 
 -- src/writing.rt:61:1
 returns-2 : tie.Need-returns-2
-returns-2 c = ?
+unfolding ends
+returns-2 c = rw (c .enum-told2 .given .1)
 
 -- src/writing.rt:61:1
 returns-3 : tie.Need-returns-3
-returns-3 c = ?
+unfolding ends
+returns-3 c = rw (c .enum-told3 .given .1)
 
 -- src/writing.rt:61:1
 returns-4 : tie.Need-returns-4
-returns-4 c = ?
+unfolding ends
+returns-4 c = rw (c .enum-told4 .given .1)
 
 -- src/writing.rt:61:1
 returns-5 : tie.Need-returns-5
-returns-5 c = ?
+unfolding ends
+returns-5 c = rw (c .enum-told5 .given .1)
 
 -- src/writing.rt:61:1
 returns-6 : tie.Need-returns-6
-returns-6 c = ?
+unfolding ends
+returns-6 c = rw (c .enum-told6 .given .1)
 
 -- src/writing.rt:61:1
 returns-7 : tie.Need-returns-7
-returns-7 c = ?
+unfolding ends
+returns-7 c = rw (c .enum-told7 .given .1)
 
 -- src/writing.rt:61:1
 returns-8 : tie.Need-returns-8
-returns-8 c = ?
+unfolding ends
+returns-8 c = rw (c .enum-told8 .given .1)
 
 pub is-last-spec : {M : Type 1} → statement M
 is-last-spec =

@@ -1,3 +1,11 @@
+-- `put_line` meets its contract: the line that each answer of a call has.
+use lib.Seq.{length-take-le}
+use mathlib.Core.Path.{sym}
+use native.Mathlib.Omega.{arith}
+use Rattle.bench.specs.Machine.{numberOf}
+use Rattle.bench.specs.declared.outcome.Outcome.the-variants.{Answered, AtEnd, Incomplete, Dropped, PastEnd, BadImage, ShortOutput, FullTally}
+use Rattle.report.proofs.CallLines.{printed-as, drop-is, left-is}
+use Rattle.report.specs.Lines.{lineFor}
 use borrow.Author.Needs.{needs}
 use Rattle.report.proofs.writing.put_line.Statement.{statement}
 use Rattle.report.proofs.writing.put_line.Tie as tie
@@ -20,11 +28,18 @@ enum-told c = search needs
 
 -- src/writing.rt:92:52
 slice-aggregate-put-frame : tie.Need-slice-aggregate-put-frame
-slice-aggregate-put-frame c = ?
+slice-aggregate-put-frame c =
+    let start = c .before .before .before .before .before .before .before .before in
+    let framed = start .pre .framed (c .before .before .enum-told .given .1) in
+    sym (length-take-le (start .args .called .length) (start .args .output .now) (framed .there))
 
 -- src/writing.rt:92:30
 put-frame-requires : tie.Need-put-frame-requires
-put-frame-requires c κs = ?
+put-frame-requires c κs =
+    let start = c .before .before .before .before .before .before .before .before in
+    let framed = start .pre .framed (c .before .before .enum-told .given .1) in
+    let all = length-take-le (start .args .called .length) (start .args .output .now) (framed .there) in
+    (start .pre .room, (omega (arith, all, framed .some), omega (arith, all, framed .at-most-136)))
 
 -- src/writing.rt:93:38
 enum-told-2 : tie.Need-enum-told-2
@@ -92,7 +107,10 @@ same-length c = search needs
 
 -- src/writing.rt:77:1
 returns : tie.Need-returns
-returns c = ?
+unfolding lineFor
+returns c =
+    let a = c .before .before .before .before .before .before .before .before .before .before .before .args in
+    printed-as Answered (a .input .now) (a .cursor) (a .called) (a .output .now) _ _ _ _ (c .before .before .before .before .before .enum-told .given .1) (c .before .before .put-frame .ensures)
 
 -- src/writing.rt:77:1
 same-length-2 : tie.Need-same-length-2
@@ -100,7 +118,11 @@ same-length-2 c = search needs
 
 -- src/writing.rt:77:1
 returns-2 : tie.Need-returns-2
-returns-2 c = ?
+unfolding lineFor
+returns-2 c =
+    let a = c .before .before .before .before .before .before .before .before .before .before .before .args in
+    printed-as Dropped (a .input .now) (a .cursor) (a .called) (a .output .now) _ _ _ _ (c .before .before .before .before .before .enum-told2 .given .1)
+    (drop-is _ _ (c .before .before .before .byte-at .ensures) (c .before .before .put-drop .ensures))
 
 -- src/writing.rt:77:1
 same-length-3 : tie.Need-same-length-3
@@ -108,7 +130,11 @@ same-length-3 c = search needs
 
 -- src/writing.rt:77:1
 returns-3 : tie.Need-returns-3
-returns-3 c = ?
+unfolding lineFor
+returns-3 c =
+    let a = c .before .before .before .before .before .before .before .before .before .before .args in
+    printed-as AtEnd (a .input .now) (a .cursor) (a .called) (a .output .now) _ _ _ _ (c .before .before .before .before .enum-told3 .given .1)
+    (left-is _ _ _ (c .before .before .before .before .before .before .remaining .ensures) (c .before .before .put-counts .ensures))
 
 -- src/writing.rt:77:1
 same-length-4 : tie.Need-same-length-4
@@ -116,7 +142,11 @@ same-length-4 c = search needs
 
 -- src/writing.rt:77:1
 returns-4 : tie.Need-returns-4
-returns-4 c = ?
+unfolding lineFor
+returns-4 c =
+    let a = c .before .before .before .before .before .before .before .before .before .before .args in
+    printed-as Incomplete (a .input .now) (a .cursor) (a .called) (a .output .now) _ _ _ _ (c .before .before .before .before .enum-told4 .given .1)
+    (left-is _ _ _ (c .before .before .before .before .before .before .remaining .ensures) (c .before .before .put-counts2 .ensures))
 
 -- src/writing.rt:77:1
 same-length-5 : tie.Need-same-length-5
@@ -124,7 +154,10 @@ same-length-5 c = search needs
 
 -- src/writing.rt:77:1
 returns-5 : tie.Need-returns-5
-returns-5 c = ?
+unfolding lineFor numberOf
+returns-5 c =
+    let a = c .before .before .before .before .before .before .before .before .before .before .args in
+    printed-as PastEnd (a .input .now) (a .cursor) (a .called) (a .output .now) _ _ _ _ (c .before .before .before .before .enum-told5 .given .1) (c .before .before .put-refused .ensures)
 
 -- src/writing.rt:77:1
 same-length-6 : tie.Need-same-length-6
@@ -132,7 +165,10 @@ same-length-6 c = search needs
 
 -- src/writing.rt:77:1
 returns-6 : tie.Need-returns-6
-returns-6 c = ?
+unfolding lineFor numberOf
+returns-6 c =
+    let a = c .before .before .before .before .before .before .before .before .before .before .args in
+    printed-as BadImage (a .input .now) (a .cursor) (a .called) (a .output .now) _ _ _ _ (c .before .before .before .before .enum-told6 .given .1) (c .before .before .put-refused2 .ensures)
 
 -- src/writing.rt:77:1
 same-length-7 : tie.Need-same-length-7
@@ -140,7 +176,10 @@ same-length-7 c = search needs
 
 -- src/writing.rt:77:1
 returns-7 : tie.Need-returns-7
-returns-7 c = ?
+unfolding lineFor numberOf
+returns-7 c =
+    let a = c .before .before .before .before .before .before .before .before .before .before .args in
+    printed-as ShortOutput (a .input .now) (a .cursor) (a .called) (a .output .now) _ _ _ _ (c .before .before .before .before .enum-told7 .given .1) (c .before .before .put-refused3 .ensures)
 
 -- src/writing.rt:77:1
 same-length-8 : tie.Need-same-length-8
@@ -148,7 +187,10 @@ same-length-8 c = search needs
 
 -- src/writing.rt:77:1
 returns-8 : tie.Need-returns-8
-returns-8 c = ?
+unfolding lineFor numberOf
+returns-8 c =
+    let a = c .before .before .before .before .before .before .before .before .before .before .args in
+    printed-as FullTally (a .input .now) (a .cursor) (a .called) (a .output .now) _ _ _ _ (c .before .before .before .before .enum-told8 .given .1) (c .before .before .put-refused4 .ensures)
 
 pub put-line-spec : {M : Type 1} → statement M
 put-line-spec =

@@ -1,3 +1,4 @@
+-- `start` meets its contract: a fresh tally at the first byte.
 use borrow.Author.Needs.{needs}
 use Rattle.report.proofs.writing.Progress.start.Statement.{statement}
 use Rattle.report.proofs.writing.Progress.start.Tie as tie
@@ -11,7 +12,7 @@ fresh-requires c κs = search needs
 
 -- src/writing.rt:24:5
 returns : tie.Need-returns
-returns c = ?
+returns c = rw (c .fresh .ensures)
 
 pub start-spec : {M : Type 1} → statement M
 start-spec = tie.close (tie.spec fresh-requires returns)
