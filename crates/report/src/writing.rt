@@ -12,7 +12,7 @@ ghost use mathlib.Core.Path.{_≡_};
 ghost use Prim.Native.Nat.{_+_, _-_, _≤_};
 ghost use lib.ListN.{length};
 ghost use Rattle.report.specs.Lines.{longestLine, ends};
-ghost use Rattle.report.specs.Writing.{started, Printable, Printed, standing, OneLine};
+ghost use Rattle.report.specs.Writing.{started, Printable, Printed, standing, OneLine, Wrote};
 
 // Where a report stands between two pieces, beside the image and the output.
 pub struct Progress {
@@ -130,5 +130,47 @@ fn write_line(
             tally: next,
             over: is_last(outcome),
         },
+    }
+}
+
+// Whole lines from the start of the buffer on, as many as are sure to fit. A buffer shorter than the longest line is refused, and
+// nothing changes.
+pub fn write(
+    input: &[u8],
+    image: &mut [u8],
+    output: &mut [u8],
+    buffer: &mut [u8],
+    progress: Progress,
+) -> Written
+    ensures { λ r. ⌜
+        Wrote (now (input .entry)) (now (buffer .entry)) (now (buffer .exit)) (standing (now (image .entry)) (now (output .entry)) progress) progress
+        (standing (now (image .exit)) (now (output .exit)) (r .progress)) r
+        ⌝ }
+{
+    let mut next = progress;
+    if buffer.len() < LONGEST_LINE {
+        return Written {
+            room: Room::TooShort,
+            used: 0,
+            progress: next,
+        };
+    }
+    let mut used = 0;
+    while used + LONGEST_LINE <= buffer.len() {
+        if next.over {
+            return Written {
+                room: Room::Enough,
+                used,
+                progress: next,
+            };
+        }
+        let line = write_line(input, image, output, buffer, used, next);
+        used = line.used;
+        next = line.progress;
+    }
+    Written {
+        room: Room::Enough,
+        used,
+        progress: next,
     }
 }

@@ -1,3 +1,5 @@
+-- `write_line` meets its contract: the machine's step, and its line.
+use Rattle.report.proofs.CallLines.{called-printable, called-line}
 use borrow.Author.Needs.{needs}
 use Rattle.report.proofs.writing.write_line.Statement.{statement}
 use Rattle.report.proofs.writing.write_line.Tie as tie
@@ -13,7 +15,7 @@ call-requires c κs = search needs
 
 -- src/writing.rt:122:9
 put-line-requires : tie.Need-put-line-requires
-put-line-requires c κs = ?
+put-line-requires c κs = called-printable _ _ _ _ _ (c .before .before .before .before .before .before .call .ensures) _ _ (c .before .before .before .before .before .before .before .before .before .before .before .before .before .before .pre)
 
 -- src/writing.rt:131:19
 is-last-requires : tie.Need-is-last-requires
@@ -33,7 +35,9 @@ same-length-3 c = search needs
 
 -- src/writing.rt:105:1
 returns : tie.Need-returns
-returns c = ?
+returns c =
+    let a = c .before .before .before .before .before .before .before .before .before .before .before .before .before .before .before .before .before .before .before .args in
+    called-line (a .input .now) _ _ _ _ (c .before .before .before .before .before .before .before .before .before .before .before .call .ensures) _ _ _ _ _ (c .before .before .before .before .put-line .ensures) (c .is-last .ensures)
 
 pub write-line-spec : {M : Type 1} → statement M
 write-line-spec =
