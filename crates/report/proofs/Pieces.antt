@@ -13,7 +13,7 @@ use Rattle.frame.proofs.Picks.{pick-true, pick-false}
 use Rattle.frame.proofs.Stores.{drop-sets-behind}
 use Rattle.frame.proofs.Tests.{either}
 use Rattle.frame.specs.Bytes.{pick}
-use Rattle.report.proofs.Reports.{moves, report-more}
+use Rattle.report.proofs.Reports.{never, moves, report-more}
 use Rattle.report.specs.Lines.{lineOf, ends}
 use Rattle.report.specs.Report.{reportFrom}
 use Rattle.report.specs.Writing.{OneLine, Piece, Refused, Wrote}
@@ -83,9 +83,47 @@ module _ (input before : List ℕ) (start : State) (over₀ : Bool) where
             ∙ drop-drop m used before
             ∙ ap (λ (n : ℕ). drop n before) sum;
         some = inl (omega (arith, one .line .some));
-        calls =
-            (
-              suc (g .calls .0),
-              one .next-is ∙ ap (λ (t : State). step (call input) t .next) (g .calls .1) ∙ one-more (call input) (g .calls .0) start,
-            );
+        calls = (
+          suc (g .calls .0),
+          one .next-is ∙ ap (λ (t : State). step (call input) t .next) (g .calls .1) ∙ one-more (call input) (g .calls .0) start,
+        );
       }
+
+-- each line leaves less to write
+pub falls : (input buffer after : List ℕ) (at : ℕ) (s next : State) (over : Bool) (r : Written) → over ≡ false → OneLine input s at buffer after next r
+    → pick (r .progress .over) 0 (suc (length input - next .cursor)) < pick over 0 (suc (length input - s .cursor))
+falls input buffer after at s next over r not-over one =
+    either (r .progress .over) (λ last. simp (last, not-over, pick-true, pick-false) (omega arith))
+    (λ more.
+    let on = moves input s (sym (one .over-is) ∙ more) in
+    let there : next .cursor ≡ step (call input) s .next .cursor = ap (λ (t : State). t .cursor) (one .next-is) in
+    simp (more, not-over, pick-false) (omega (arith, there, on .on, on .within)))
+
+-- ---- what a call of `write` comes to
+
+module _ (input before : List ℕ) (start : State) (p : Progress) where
+  pub too-short : length before < 408 → Wrote input before before start p start record { room = TooShort; used = 0; progress = p }
+  too-short h =
+      record { short = λ k. record { refused = refl; buffer-stays = refl; state-stays = refl }; long = λ k. absurd (omega arith) }
+
+  pub pieced : (buffer : List ℕ) (used : ℕ) (s : State) (q : Progress) → 408 ≤ length before → Going input before start (p .over) buffer used s (q .over)
+      → (q .over ≡ false → length before < used + 408) → Wrote input before buffer start p s record { room = Enough; used = used; progress = q }
+  pieced buffer used s q room g filled =
+      record {
+        short = λ k. absurd (omega arith);
+        long =
+            λ k.
+            record {
+              enough = refl;
+              within = g .within;
+              bytes = g .bytes;
+              behind-stays = g .behind-stays;
+              some = λ fresh. ⊎-elim (λ positive. positive) (λ same. omega (arith, filled (same ∙ fresh))) (g .some);
+              filled = filled;
+              calls = g .calls;
+            };
+      }
+
+  pub ended : (buffer : List ℕ) (used : ℕ) (s : State) (q : Progress) → 408 ≤ length before → Going input before start (p .over) buffer used s (q .over)
+      → q .over ≡ true → Wrote input before buffer start p s record { room = Enough; used = used; progress = q }
+  ended buffer used s q room g over = pieced buffer used s q room g (λ h. absurd (never (sym over ∙ h)))

@@ -17,7 +17,7 @@ use Rattle.frame.specs.Bytes.{pick}
 use Rattle.report.specs.Lines.{lineOf, ends}
 use Rattle.report.specs.Report.{stepsBy, steps, linesOf, reportFrom}
 
-never : true ≡ false → ⊥
+pub never : true ≡ false → ⊥
 never h = let z : _≡_ {A = ℕ} 0 1 = cc in omega arith
 
 -- the report goes on after an answer 0 or 3 alone
