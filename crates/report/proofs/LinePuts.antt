@@ -1,0 +1,133 @@
+-- The lines of the report, put piece behind piece.
+use Prim.Native.Nat.{ℕ, suc, _+_, _*_, _≤_, _<_}
+use lib.ListN.{length, take, drop, set, getD, length-append, drop-of-length-le}
+use lib.Seq.{sets, take-length, drop-cons}
+use mathlib.Core.List.{List, [], _∷_, _++_}
+use mathlib.Core.Path.{_≡_, refl, ap, sym, _∙_}
+use native.Mathlib.Numerals.{add-one}
+use native.Mathlib.Omega.{arith}
+use Rattle.bench.specs.declared.tally.Tally.{Tally}
+use Rattle.execution.proofs.Rounds.{sets-join}
+use Rattle.execution.specs.Putting.{Put}
+use Rattle.frame.proofs.Copies.{copied-is}
+use Rattle.frame.specs.Bytes.{part}
+use Rattle.frame.specs.Copying.{copied}
+use Rattle.report.proofs.Puts.{put-join, byte-put}
+use Rattle.report.specs.Digits.{hexByte, decimal}
+use Rattle.report.specs.Lines.{dropWord, goodWord, errorWord, droppedWord, leftWord, refusedWord, dropLine, separator, frameLine, countPart, tallyPart, countsLine, refusedLine}
+use Rattle.report.specs.Writing.{Line}
+
+pub text-put : (text buffer after : List ℕ) (at : ℕ) → at + length text ≤ length buffer → after ≡ copied text 0 (length text) buffer at
+    → Put text at buffer after (at + length text)
+unfolding part
+text-put text buffer after at room e =
+    record {
+      output-is = e ∙ copied-is text 0 (length text) buffer at (omega arith) room ∙ ap (λ (l : List ℕ). sets buffer at l) (take-length text);
+      next-is = refl;
+    }
+
+-- ---- the counts
+
+module _ (before : List ℕ) (at : ℕ) where
+  pub count-put : (word : List ℕ) (n : ℕ) (middle after : List ℕ) (next last : ℕ) → Put word at before middle next → Put (decimal n) next middle after last
+      → Put (countPart word n) at before after last
+  unfolding countPart
+  count-put word n middle after next last = put-join word (decimal n) at before middle after next last
+
+  pub tally-put : (t : Tally) (one two after : List ℕ) (second third last : ℕ) → Put (countPart goodWord (t .good)) at before one second
+      → Put (countPart errorWord (t .error)) second one two third → Put (countPart droppedWord (t .dropped)) third two after last
+      → Put (tallyPart t) at before after last
+  unfolding tallyPart
+  tally-put t one two after second third last g e d =
+      put-join (countPart goodWord (t .good) ++ countPart errorWord (t .error)) (countPart droppedWord (t .dropped)) at before two after third last
+      (put-join (countPart goodWord (t .good)) (countPart errorWord (t .error)) at before one two second third g e) d
+
+  -- a piece, and the newline behind it
+  closed : (piece after : List ℕ) (last : ℕ) → Put piece at before after last → last + 1 ≤ at + 408 → Line (piece ++ (10 ∷ [])) at before (set after last 10) (last + 1)
+  closed piece after last put short =
+      record {
+        put = put-join piece (10 ∷ []) at before after (set after last 10) last (last + 1) put (byte-put 10 last after);
+        some = omega (arith, put .next-is);
+        most = short;
+      }
+
+  pub counts-put : (t : Tally) (left : ℕ) (middle after : List ℕ) (fourth last : ℕ) → Put (tallyPart t) at before middle fourth
+      → Put (countPart leftWord left) fourth middle after last → last + 1 ≤ at + 408 → Line (countsLine t left) at before (set after last 10) (last + 1)
+  unfolding countsLine
+  counts-put t left middle after fourth last counts l =
+      closed (tallyPart t ++ countPart leftWord left) after last
+      (put-join (tallyPart t) (countPart leftWord left) at before middle after fourth last counts l)
+
+  pub refused-put : (n : ℕ) (after : List ℕ) (last : ℕ) → Put (countPart refusedWord n) at before after last → last + 1 ≤ at + 408
+      → Line (refusedLine n) at before (set after last 10) (last + 1)
+  unfolding refusedLine
+  refused-put n = closed (countPart refusedWord n)
+
+  -- ---- a dropped byte
+
+  pub drop-put : (b : ℕ) (middle after : List ℕ) (next last : ℕ) → Put dropWord at before middle next → Put (hexByte b ++ (10 ∷ [])) next middle after last
+      → Line (dropLine b) at before after last
+  unfolding dropLine dropWord hexByte
+  drop-put b middle after next last word hex =
+      record {
+        put = put-join dropWord (hexByte b ++ (10 ∷ [])) at before middle after next last word hex;
+        some = omega (arith, word .next-is, hex .next-is);
+        most = omega (arith, word .next-is, hex .next-is);
+      }
+
+-- ---- a frame
+
+pub separator-within : (frame : List ℕ) (next : ℕ) → next < length frame → 32 ≡ separator (drop next frame)
+unfolding separator
+separator-within frame next h = rw (drop-cons frame next 0 h)
+
+pub separator-last : (frame : List ℕ) (next : ℕ) → length frame ≤ next → 10 ≡ separator (drop next frame)
+unfolding separator
+separator-last frame next h = rw (drop-of-length-le frame h)
+
+frame-line-more : (b : ℕ) (bytes : List ℕ) → frameLine (b ∷ bytes) ≡ (hexByte b ++ (separator bytes ∷ [])) ++ frameLine bytes
+unfolding frameLine
+frame-line-more b bytes = refl
+
+length-frame-line : (frame : List ℕ) → length (frameLine frame) ≡ 3 * length frame
+unfolding frameLine hexByte
+length-frame-line [] = refl
+length-frame-line (b ∷ bytes) = omega (arith, length-frame-line bytes)
+
+pub hex-next : (b behind at next : ℕ) (before after : List ℕ) → Put (hexByte b ++ (behind ∷ [])) at before after next → next ≡ at + 3
+unfolding hexByte
+hex-next b behind at next before after put = put .next-is
+
+-- one byte more stands there
+pub frame-more : (frame buffer after : List ℕ) (i next behind last : ℕ) → i < length frame → behind ≡ separator (drop (i + 1) frame)
+    → Put (hexByte (getD frame i 0) ++ (behind ∷ [])) next buffer after last
+    → sets after last (frameLine (drop (i + 1) frame)) ≡ sets buffer next (frameLine (drop i frame))
+frame-more frame buffer after i next behind last h e put =
+    let rest : List ℕ = drop (i + 1) frame in
+    let piece : List ℕ = hexByte (getD frame i 0) ++ (behind ∷ []) in
+    let split : drop i frame ≡ getD frame i 0 ∷ rest = rw add-one (drop-cons frame i 0 h) in
+    ap (λ (l : List ℕ). sets l last (frameLine rest)) (put .output-is)
+    ∙ ap (λ (n : ℕ). sets (sets buffer next piece) n (frameLine rest)) (put .next-is)
+    ∙ sets-join buffer next piece (frameLine rest)
+    ∙ ap (λ (v : ℕ). sets buffer next ((hexByte (getD frame i 0) ++ (v ∷ [])) ++ frameLine rest)) e
+    ∙ ap (λ (l : List ℕ). sets buffer next l) (sym (frame-line-more (getD frame i 0) rest) ∙ ap frameLine (sym split))
+
+frame-line-none : frameLine [] ≡ []
+unfolding frameLine
+frame-line-none = refl
+
+-- all bytes stand there
+pub frame-whole : (frame before after : List ℕ) (at next i : ℕ) → 0 < length frame → length frame ≤ 136 → length frame ≤ i → i ≤ length frame
+    → next ≡ at + 3 * i → sets after next (frameLine (drop i frame)) ≡ sets before at (frameLine frame)
+    → Line (frameLine frame) at before after next
+frame-whole frame before after at next i some most all within e o =
+    let three : length (frameLine frame) ≡ 3 * length frame = length-frame-line frame in
+    record {
+      put =
+          record {
+            output-is = ap (λ (l : List ℕ). sets after next l) (sym (ap frameLine (drop-of-length-le frame all) ∙ frame-line-none)) ∙ o;
+            next-is = omega arith;
+          };
+      some = omega arith;
+      most = omega arith;
+    }

@@ -1,0 +1,32 @@
+-- `put_count` meets its contract: the word, then the number.
+use native.Mathlib.Omega.{arith}
+use Rattle.report.proofs.LinePuts.{count-put}
+use borrow.Author.Needs.{needs}
+use Rattle.report.proofs.lines.put_count.Statement.{statement}
+use Rattle.report.proofs.lines.put_count.Tie as tie
+use Rattle.report.proofs.lines.put_count.Reads as reads
+use Rattle.report.proofs.lines.put_count.Lts as lts
+use Rattle.report.proofs.digits.put_decimal.Reads as put-decimal-reads
+use Rattle.report.proofs.lines.put_text.Reads as put-text-reads
+
+-- src/lines.rt:27:9
+put-text-requires : tie.Need-put-text-requires
+put-text-requires c κs = search needs
+
+-- src/lines.rt:28:5
+put-decimal-requires : tie.Need-put-decimal-requires
+put-decimal-requires c κs = search needs
+
+-- src/lines.rt:22:1
+same-length : tie.Need-same-length
+same-length c = search needs
+
+-- src/lines.rt:22:1
+returns : tie.Need-returns
+returns c =
+    let number = c .before .before .put-decimal .ensures in
+    let word = c .before .before .before .before .before .before .put-text .ensures in
+    (count-put _ _ _ _ _ _ _ _ word (number .0), omega (arith, number .1, word .next-is))
+
+pub put-count-spec : {M : Type 1} → statement M
+put-count-spec = tie.close (tie.spec put-text-requires put-decimal-requires same-length returns)

@@ -1,0 +1,39 @@
+-- The report of document 01: the lines of the calls on one input, from any state of the machine, up to the call that ends it.
+use Prim.Native.Nat.{ℕ, zero, suc, _-_}
+use mathlib.Core.Bool.{Bool, false, _||_}
+use mathlib.Core.List.{List, [], _∷_, _++_}
+use lib.Dec.{ltb}
+use lib.ListN.{length, replicate}
+use Rattle.bench.specs.Counts.{freshTally}
+use Rattle.bench.specs.Machine.{State, call, Step, step}
+use Rattle.frame.specs.Bytes.{pick}
+use Rattle.report.specs.Lines.{tooLongLine, lineOf, ends}
+
+-- the steps of the calls up to the first that ends the report, or of as many calls as `most` says
+unfoldable pub stepsBy : ℕ → List ℕ → State → List Step
+stepsBy zero input s = []
+stepsBy (suc most) input s = step (call input) s ∷ pick (ends (step (call input) s .outcome)) [] (stepsBy most input (step (call input) s .next))
+
+-- A call that takes bytes moves the cursor on, so that one call for each byte left, and one more, are enough.
+unfoldable pub steps : List ℕ → State → List Step
+steps input s = stepsBy (suc (length input - s .cursor)) input s
+
+-- the line of each step, from the state that the one before left
+unfoldable pub linesOf : List ℕ → State → List Step → List ℕ
+linesOf input s [] = []
+linesOf input s (x ∷ rest) = lineOf input s x ++ linesOf input (x .next) rest
+
+-- the report from a state on; of a report that is over no bytes are left
+unfoldable pub reportFrom : List ℕ → Bool → State → List ℕ
+reportFrom input over s = pick over [] (linesOf input s (steps input s))
+
+-- "The program reads commands.bin and tag.img, at most 32,768 and 2,048 bytes; a longer file gives only `TOO LONG`"
+unfoldable pub tooLong : ℕ → ℕ → Bool
+tooLong commands image = ltb 32768 commands || ltb 2048 image
+
+-- where the program begins: an output of 136 bytes, cursor 0 and a fresh tally
+unfoldable pub fresh : List ℕ → State
+fresh image = record { image = image; output = replicate 136 0; cursor = 0; tally = freshTally }
+
+unfoldable pub reportOf : List ℕ → List ℕ → List ℕ
+reportOf commands image = pick (tooLong (length commands) (length image)) tooLongLine (reportFrom commands false (fresh image))

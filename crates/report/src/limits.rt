@@ -1,0 +1,1 @@
+// The files that are too long to be read.

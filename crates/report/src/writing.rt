@@ -1,0 +1,176 @@
+// The report, written in pieces: each call of `write` fills a lent buffer with whole lines, and hands back where to go on.
+use crate::lines::put_counts;
+use crate::lines::put_drop;
+use crate::lines::put_frame;
+use crate::lines::put_refused;
+use bench::calling::Called;
+use bench::calling::call;
+use bench::outcome::Outcome;
+use bench::tally::Tally;
+use frame::bytes::byte_at;
+ghost use mathlib.Core.Path.{_≡_};
+ghost use Prim.Native.Nat.{_+_, _-_, _≤_};
+ghost use lib.ListN.{length};
+ghost use Rattle.report.specs.Lines.{longestLine, ends};
+ghost use Rattle.report.specs.Writing.{started, Printable, Printed, standing, OneLine, Wrote};
+
+// Where a report stands between two pieces, beside the image and the output.
+pub struct Progress {
+    pub cursor: usize,
+    pub tally: Tally,
+    pub over: bool,
+}
+
+impl Progress {
+    pub fn start() -> Self
+        ensures { λ r. ⌜ r ≡ started ⌝ }
+    {
+        Self {
+            cursor: 0,
+            tally: Tally::fresh(),
+            over: false,
+        }
+    }
+}
+
+// Whether the lent buffer has room for the longest line.
+pub enum Room {
+    Enough,
+    TooShort,
+}
+
+// What a piece comes to: how many bytes stand in the buffer, and where the report goes on.
+pub struct Written {
+    pub room: Room,
+    pub used: usize,
+    pub progress: Progress,
+}
+
+// The longest line: a frame of 136 bytes, each with two digits and a separator.
+const LONGEST_LINE: usize = 408;
+
+fn remaining(all: usize, passed: usize) -> usize
+    ensures { λ r. ⌜ r ≡ all - passed ⌝ }
+{
+    if passed <= all {
+        return all - passed;
+    }
+    0
+}
+
+// The report ends with this call's line.
+fn is_last(outcome: Outcome) -> bool
+    ensures { λ r. ⌜ r ≡ ends outcome ⌝ }
+{
+    match outcome {
+        Outcome::Answered => false,
+        Outcome::Dropped => false,
+        Outcome::AtEnd => true,
+        Outcome::Incomplete => true,
+        Outcome::PastEnd => true,
+        Outcome::BadImage => true,
+        Outcome::ShortOutput => true,
+        Outcome::FullTally => true,
+    }
+}
+
+// The line of a call that was made at `cursor`.
+fn put_line(
+    input: &[u8],
+    cursor: usize,
+    output: &[u8],
+    called: Called,
+    buffer: &mut [u8],
+    at: usize,
+) -> usize
+    requires { ⌜ Printable called (now output) (now buffer) at ⌝ }
+    ensures { λ r. ⌜ Printed (now (input .entry)) cursor called (now (output .entry)) at (now (buffer .entry)) (now (buffer .exit)) r ⌝ }
+{
+    let outcome = called.outcome;
+    let length = called.length;
+    let left = remaining(input.len(), called.cursor);
+    match outcome {
+        Outcome::Answered => put_frame(buffer, at, &output[..length]),
+        Outcome::Dropped => put_drop(buffer, at, byte_at(input, cursor)),
+        Outcome::AtEnd => put_counts(buffer, at, called.tally, left),
+        Outcome::Incomplete => put_counts(buffer, at, called.tally, left),
+        Outcome::PastEnd => put_refused(buffer, at, 10),
+        Outcome::BadImage => put_refused(buffer, at, 11),
+        Outcome::ShortOutput => put_refused(buffer, at, 12),
+        Outcome::FullTally => put_refused(buffer, at, 13),
+    }
+}
+
+// One call, and its line at `at`.
+fn write_line(
+    input: &[u8],
+    image: &mut [u8],
+    output: &mut [u8],
+    buffer: &mut [u8],
+    at: usize,
+    progress: Progress,
+) -> Written
+    requires { ⌜ at + longestLine ≤ length (now buffer) ⌝ }
+    ensures { λ r. ⌜
+        OneLine (now (input .entry)) (standing (now (image .entry)) (now (output .entry)) progress) at (now (buffer .entry)) (now (buffer .exit))
+        (standing (now (image .exit)) (now (output .exit)) (r .progress)) r
+        ⌝ }
+{
+    let cursor = progress.cursor;
+    let tally = progress.tally;
+    let called = call(input, image, output, cursor, tally);
+    let used = put_line(input, cursor, output, called, buffer, at);
+    let next = called.tally;
+    let outcome = called.outcome;
+    Written {
+        room: Room::Enough,
+        used,
+        progress: Progress {
+            cursor: called.cursor,
+            tally: next,
+            over: is_last(outcome),
+        },
+    }
+}
+
+// Whole lines from the start of the buffer on, as many as are sure to fit. A buffer shorter than the longest line is refused, and
+// nothing changes.
+pub fn write(
+    input: &[u8],
+    image: &mut [u8],
+    output: &mut [u8],
+    buffer: &mut [u8],
+    progress: Progress,
+) -> Written
+    ensures { λ r. ⌜
+        Wrote (now (input .entry)) (now (buffer .entry)) (now (buffer .exit)) (standing (now (image .entry)) (now (output .entry)) progress) progress
+        (standing (now (image .exit)) (now (output .exit)) (r .progress)) r
+        ⌝ }
+{
+    let mut next = progress;
+    if buffer.len() < LONGEST_LINE {
+        return Written {
+            room: Room::TooShort,
+            used: 0,
+            progress: next,
+        };
+    }
+    let mut used = 0;
+    while used + LONGEST_LINE <= buffer.len() {
+        if next.over {
+            return Written {
+                room: Room::Enough,
+                used,
+                progress: next,
+            };
+        }
+        let line = write_line(input, image, output, buffer, used, next);
+        used = line.used;
+        next = line.progress;
+    }
+    Written {
+        room: Room::Enough,
+        used,
+        progress: next,
+    }
+}
