@@ -21,7 +21,7 @@ use Rattle.tag.specs.Image.{bankAt, view, rssi, bankOf, wordAt, endOf, epcLengt
 use Rattle.tag.specs.Locks.{pairs, bitsOf, permalocked, standingOf, standing, isSecured, isWrong, killStandingOf, killStanding, allows, touches, mayTouchPasswords, mayRead, mayWrite, newBit, newPair, newPairs, breaks, breaksPermalock}
 
 -- all that the machine is made of, opened at once
-everything : Unit {0}
+unfoldable pub everything : Unit {0}
 unfolding limit full raised numberOf unchanged dropped written counted answered actIn afterFinding inputOf restOf step run leaving shifted added bitStep bitSteps entered byteStep crc tagCrc pick all byte number double twoBytes part codeIn plIn parametersIn checkRight endRight find sum checkOf checked frameOf frameLength longestCommand longestAnswer pcAndEpc tail answer changed isError passwordIn bankIn pointerIn countIn dataIn ldIn aimRight parseInventory parseRead parseWrite parseLock parseKill parse gone outside inventoryVerdict readVerdict lengthBroken writeVerdict lockVerdict killActs killVerdict verdict actOf bankAt view rssi bankOf wordAt endOf epcLength killPassword accessPassword goodHeader goodBanks goodTag good pairs bitsOf permalocked standingOf standing isSecured isWrong killStandingOf killStanding allows touches mayTouchPasswords mayRead mayWrite newBit newPair newPairs breaks breaksPermalock passwordsAt acceptedBy accepted carries carriesNone noneCarries
 everything = tt
 

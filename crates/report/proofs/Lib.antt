@@ -5,3 +5,5 @@ pub mod LinePuts
 pub mod Pieces
 pub mod Puts
 pub mod Reports
+pub mod Sampled
+pub mod TooLong

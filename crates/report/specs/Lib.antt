@@ -1,3 +1,4 @@
+pub mod Claims
 pub mod Digits
 pub mod Lines
 pub mod Report

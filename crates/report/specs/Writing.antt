@@ -12,7 +12,8 @@ use Rattle.bench.specs.declared.calling.Called.{Called}
 use Rattle.bench.specs.declared.outcome.Outcome.the-variants.{Answered}
 use Rattle.execution.specs.Putting.{Put}
 use Rattle.frame.specs.Bytes.{byte}
-use Rattle.report.specs.Lines.{longestLine, lineFor, lineOf, ends}
+use Rattle.frame.specs.Frames.{written}
+use Rattle.report.specs.Lines.{tooLongLine, longestLine, lineFor, lineOf, ends}
 use Rattle.report.specs.Report.{reportFrom}
 use Rattle.report.specs.declared.writing.Progress.{Progress}
 use Rattle.report.specs.declared.writing.Room.the-variants.{Enough, TooShort}
@@ -78,3 +79,10 @@ pub record Refused (before after : List ℕ) (s : State) (p : Progress) (next : 
 pub record Wrote (input before after : List ℕ) (s : State) (p : Progress) (next : State) (r : Written) : Type 0 where
   pub short : length before < longestLine → Refused before after s p next r
   pub long : longestLine ≤ length before → Piece input before after s (p .over) next r
+
+-- ---- a report that is one line
+
+-- the line stands at the start, and the buffer behind it stays; where it has no room, nothing is written
+pub record Told (before after : List ℕ) (used : ℕ) : Type 0 where
+  pub short : length before < 9 → (used ≡ 0) × (after ≡ before)
+  pub long : 9 ≤ length before → (used ≡ 9) × (after ≡ written tooLongLine before)

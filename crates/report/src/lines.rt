@@ -10,7 +10,7 @@ ghost use Rattle.execution.specs.Putting.{Put};
 ghost use Rattle.report.specs.Lines.{dropLine, separator, frameLine, countPart, tallyPart, countsLine, refusedLine, longestLine};
 ghost use Rattle.report.specs.Writing.{Line};
 
-fn put_text(buffer: &mut [u8], at: usize, text: &[u8]) -> usize
+pub(crate) fn put_text(buffer: &mut [u8], at: usize, text: &[u8]) -> usize
     requires { ⌜ at + length (now text) ≤ length (now buffer) ⌝ }
     ensures { λ r. ⌜ Put (now (text .entry)) at (now (buffer .entry)) (now (buffer .exit)) r ⌝ }
 {

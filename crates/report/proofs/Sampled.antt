@@ -1,0 +1,21 @@
+-- What is computed: document 01's sample report, and the report on an empty image.
+use Prim.Native.Nat.{ℕ}
+use mathlib.Core.Path.{_≡_, refl}
+use Rattle.bench.proofs.Computed.{everything}
+use Rattle.report.specs.Claims.{SampleReport, EmptyImage}
+use Rattle.report.specs.Digits.{hexDigit, hexByte, widthBy, width, digits, decimal}
+use Rattle.report.specs.Lines.{dropWord, goodWord, errorWord, droppedWord, leftWord, refusedWord, tooLongLine, dropLine, separator, frameLine, countPart, tallyPart, countsLine, refusedLine, lineFor, lineOf, ends}
+use Rattle.report.specs.Report.{stepsBy, steps, linesOf, reportFrom, tooLong, fresh, reportOf}
+
+-- all that the report is made of beside the machine, opened at once
+opened : Unit {0}
+unfolding everything hexDigit hexByte widthBy width digits decimal dropWord goodWord errorWord droppedWord leftWord refusedWord tooLongLine dropLine separator frameLine countPart tallyPart countsLine refusedLine lineFor lineOf ends stepsBy steps linesOf reportFrom tooLong fresh reportOf
+opened = tt
+
+pub sample-report : SampleReport
+unfolding opened
+sample-report = refl
+
+pub empty-image : EmptyImage
+unfolding opened
+empty-image = refl
