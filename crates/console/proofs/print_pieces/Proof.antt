@@ -1,0 +1,108 @@
+-- `print_pieces` meets its contract: each piece is written from the state that the one before left, and the report ends.
+use borrow.Author.Needs.{needs}
+use borrow.Author.Tests.{not-true}
+use lib.ListN.{length}
+use lib.Seq.{length-take-le}
+use mathlib.Core.Path.{sym}
+use Rattle.console.proofs.Printing.{Going, going, ran, used-there, goes-on, nearer}
+use Rattle.report.specs.Report.{reportFrom}
+use Rattle.report.specs.Writing.{standing}
+use Rattle.console.proofs.print_pieces.Statement.{statement}
+use Rattle.console.proofs.print_pieces.Tie as tie
+use Rattle.console.proofs.print_pieces.Reads as reads
+use Rattle.console.proofs.print_pieces.Lts as lts
+use Rattle.io.proofs.write_all.Reads as write-all-reads
+use Rattle.report.proofs.writing.Progress.start.Reads as start-reads
+use Rattle.report.proofs.writing.write.Reads as write-reads
+
+abbrev Inv-loop : tie.InvT-loop
+Inv-loop commands image₀ output₀ buffer₀ progress₀ image output buffer progress = Going commands image₀ output₀ buffer₀ image output buffer progress
+
+abbrev μ-loop : tie.MeasureT-loop
+μ-loop commands image₀ output₀ buffer₀ progress₀ image output buffer progress = length (reportFrom commands (progress .over) (standing image output progress))
+
+start-requires : tie.Need-start-requires Inv-loop μ-loop
+start-requires c κs = search needs
+
+loop-holds : tie.Need-loop-holds Inv-loop μ-loop
+loop-holds c = going _ _ _ _ _ (c .start .ensures)
+
+write-requires : tie.Need-write-requires Inv-loop μ-loop
+write-requires c κs = search needs
+
+slice-reshare-prefix-write-all : tie.Need-slice-reshare-prefix-write-all Inv-loop μ-loop
+slice-reshare-prefix-write-all c =
+    let made = c .before .before .before .before .before .before .write in
+    let l = c .before .before .before .before .before .before .before .before .before .before .before .before in
+    used-there _ _ _ _ _ _ _ _ _ _ _ _ (l .loop .inv) (l .before .before .before .before .before .before .pre) (made .ensures) (made .kept .1 .0) (made .kept .1 .1 .0) (made .kept .1 .1 .1 .0)
+
+slice-aggregate-write-all : tie.Need-slice-aggregate-write-all Inv-loop μ-loop
+slice-aggregate-write-all c =
+    let made = c .before .before .before .before .before .before .before .write in
+    let l = c .before .before .before .before .before .before .before .before .before .before .before .before .before in
+    sym (length-take-le _ _ (used-there _ _ _ _ _ _ _ _ _ _ _ _ (l .loop .inv) (l .before .before .before .before .before .before .pre) (made .ensures) (made .kept .1 .0) (made .kept .1 .1 .0) (made .kept .1 .1 .1 .0)))
+
+write-all-requires : tie.Need-write-all-requires Inv-loop μ-loop
+write-all-requires c κs = search needs
+
+same-length : tie.Need-same-length Inv-loop μ-loop
+same-length c = search needs
+
+same-length-2 : tie.Need-same-length-2 Inv-loop μ-loop
+same-length-2 c = search needs
+
+same-length-3 : tie.Need-same-length-3 Inv-loop μ-loop
+same-length-3 c = search needs
+
+returns : tie.Need-returns Inv-loop μ-loop
+returns c =
+    let made = c .before .before .before .before .before .before .before .before .before .write in
+    let l = c .before .before .before .before .before .before .before .before .before .before .before .before .before .before .before in
+    ran _ _ _ _ _ _ _ _ (goes-on _ _ _ _ _ _ _ _ _ _ _ _ (l .loop .inv) (l .before .before .before .before .before .before .pre) (made .ensures) (made .kept .1 .0) (made .kept .1 .1 .0) (made .kept .1 .1 .1 .0))
+
+loop-less : tie.Need-loop-less Inv-loop μ-loop
+loop-less c =
+    let made = c .before .before .before .before .before .before .before .before .before .before .write in
+    let l = c .before .before .before .before .before .before .before .before .before .before .before .before .before .before .before .before in
+    nearer _ _ _ _ _ _ _ _ _ _ _ _ (l .loop .inv) (l .before .before .before .before .before .before .pre) (made .ensures) (made .kept .1 .0) (made .kept .1 .1 .0) (made .kept .1 .1 .1 .0) (not-true _ (c .before .before .before .before .before .before .before .before .before .before .before .before .before .before .if1 .taken))
+
+loop-again : tie.Need-loop-again Inv-loop μ-loop
+loop-again c =
+    let made = c .before .before .before .before .before .before .before .before .before .before .write in
+    let l = c .before .before .before .before .before .before .before .before .before .before .before .before .before .before .before .before in
+    goes-on _ _ _ _ _ _ _ _ _ _ _ _ (l .loop .inv) (l .before .before .before .before .before .before .pre) (made .ensures) (made .kept .1 .0) (made .kept .1 .1 .0) (made .kept .1 .1 .1 .0)
+
+same-length-4 : tie.Need-same-length-4 Inv-loop μ-loop
+same-length-4 c = search needs
+
+same-length-5 : tie.Need-same-length-5 Inv-loop μ-loop
+same-length-5 c = search needs
+
+same-length-6 : tie.Need-same-length-6 Inv-loop μ-loop
+same-length-6 c = search needs
+
+returns-2 : tie.Need-returns-2 Inv-loop μ-loop
+returns-2 c = ran _ _ _ _ _ _ _ _ (c .before .before .loop .inv)
+
+pub print-pieces-spec : {M : Type 1} → statement M
+print-pieces-spec =
+    tie.close
+    (tie.spec
+    Inv-loop
+    μ-loop
+    start-requires
+    loop-holds
+    write-requires
+    slice-reshare-prefix-write-all
+    slice-aggregate-write-all
+    write-all-requires
+    same-length
+    same-length-2
+    same-length-3
+    returns
+    loop-less
+    loop-again
+    same-length-4
+    same-length-5
+    same-length-6
+    returns-2)
