@@ -1,9 +1,10 @@
 -- A proof of every statement on the claims page, specs/Claims.antt, in its order.
 use Rattle.report.proofs.Counted as Counted
+use Rattle.report.proofs.Decimals as Decimals
 use Rattle.report.proofs.LinesOfCalls as LinesOfCalls
 use Rattle.report.proofs.Sampled as Sampled
 use Rattle.report.proofs.Whole as Whole
-use Rattle.report.specs.Claims.{SampleReport, EmptyImage, TooLongReport, FrameLines, DropLines, CountLines, RefusedLines, LineByLine, GoodImageReport, BadImageReport, CountsAreLines, BytesAddUp}
+use Rattle.report.specs.Claims.{SampleReport, EmptyImage, TooLongReport, HexDigits, OneDigit, MoreDigits, FrameLines, DropLines, CountLines, RefusedLines, LineByLine, GoodImageReport, BadImageReport, CountsAreLines, BytesAddUp}
 
 pub sample-report : SampleReport
 sample-report = Sampled.sample-report
@@ -13,6 +14,15 @@ empty-image = Sampled.empty-image
 
 pub too-long-report : TooLongReport
 too-long-report = Whole.too-long-report
+
+pub hex-digits : HexDigits
+hex-digits = Decimals.hex-digits
+
+pub one-digit : OneDigit
+one-digit = Decimals.one-digit
+
+pub more-digits : MoreDigits
+more-digits = Decimals.more-digits
 
 pub frame-lines : FrameLines
 frame-lines = LinesOfCalls.frame-lines

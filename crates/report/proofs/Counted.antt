@@ -1,16 +1,16 @@
 -- The counts that the report prints: the lines before them, and the bytes of the input.
-use Prim.Native.Nat.{ℕ, zero, suc, _+_, _-_, _≤_, _<_}
+use Prim.Native.Nat.{ℕ, zero, suc, _+_, _-_, _≤_}
 use lib.Dec.{eqb}
 use lib.ListN.{length, drop, replicate, length-drop}
 use mathlib.Core.Bool.{Bool, true, false, not, _&&_}
 use mathlib.Core.List.{List, [], _∷_}
 use mathlib.Core.Logic.{_≢_}
-use mathlib.Core.Path.{_≡_, refl, ap, sym, _∙_}
+use mathlib.Core.Path.{_≡_, refl, ap}
 use native.Mathlib.Omega.{arith}
 use Rattle.bench.proofs.Answering.{framed}
 use Rattle.bench.proofs.Claimed.{history}
 use Rattle.bench.proofs.Steps.{step-cases}
-use Rattle.bench.specs.Claims.{count, isGood, isError, isDropped}
+use Rattle.bench.specs.Claims.{count, isGood, isError}
 use Rattle.bench.specs.Machine.{State, call, Step, numberOf, unchanged, dropped, answered, inputOf, restOf, step, run, after}
 use Rattle.bench.specs.declared.outcome.Outcome.{Outcome}
 use Rattle.bench.specs.declared.outcome.Outcome.the-variants.{Answered, AtEnd, Incomplete, Dropped, PastEnd, BadImage, ShortOutput, FullTally}

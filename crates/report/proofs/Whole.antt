@@ -1,25 +1,24 @@
 -- The whole report: lines of calls that take bytes, then one line that ends it.
-use Prim.Native.Nat.{ℕ, zero, suc, _+_, _-_, _≤_, _<_}
-use borrow.Author.Tests.{ltb-false, le-ltb, lt-ltb}
+use Prim.Native.Nat.{ℕ, zero, suc, _+_, _≤_}
+use borrow.Author.Tests.{ltb-false, le-ltb}
 use lib.Dec.{ltb}
 use lib.ListN.{length, replicate}
-use mathlib.Core.Bool.{Bool, true, false, not, _||_}
-use mathlib.Core.List.{List, [], _∷_, _++_, append-assoc, append-nil}
-use mathlib.Core.Logic.{_⊎_, inl, inr, ⊎-elim}
+use mathlib.Core.Bool.{Bool, true, false, not}
+use mathlib.Core.List.{List, _++_, append-assoc, append-nil}
+use mathlib.Core.Logic.{_⊎_, ⊎-elim}
 use mathlib.Core.Path.{_≡_, refl, ap, sym, _∙_}
 use native.Mathlib.Omega.{arith}
 use Rattle.bench.proofs.Claimed.{bound}
 use Rattle.bench.specs.Claims.{answerOf, count, takes}
-use Rattle.bench.specs.Machine.{State, Call, call, Step, numberOf, unchanged, inputOf, step, run, after}
+use Rattle.bench.specs.Machine.{State, call, Step, numberOf, unchanged, inputOf, step, run, after}
 use Rattle.bench.specs.declared.outcome.Outcome.{Outcome}
 use Rattle.bench.specs.declared.outcome.Outcome.the-variants.{Answered, AtEnd, Incomplete, Dropped, PastEnd, BadImage, ShortOutput, FullTally}
 use Rattle.frame.proofs.Picks.{by-test, pick-true, pick-false}
 use Rattle.frame.proofs.Tests.{either, or-neither}
-use Rattle.frame.specs.Bytes.{pick}
 use Rattle.report.proofs.LinesOfCalls.{count-lines, refused-lines}
 use Rattle.report.proofs.Reports.{report-over, report-more}
 use Rattle.report.specs.Claims.{TooLongReport, LineByLine, GoodImageReport, BadImageReport}
-use Rattle.report.specs.Lines.{tooLongLine, countsLine, refusedLine, lineOf, ends}
+use Rattle.report.specs.Lines.{refusedLine, lineOf, ends}
 use Rattle.report.specs.Report.{linesOf, reportFrom, tooLong, fresh, reportOf}
 use Rattle.tag.specs.Image.{good}
 
