@@ -1,10 +1,9 @@
 -- Laws of the decimal digits: how many there are, by tenths, and that a number of 64 bits has at most twenty.
-use Prim.Native.Nat.{ℕ, zero, suc, _+_, _*_, _-_, _/_, _%_, _^_, _≤_, _<_}
+use Prim.Native.Nat.{ℕ, zero, suc, _+_, _-_, _/_, _%_, _^_, _≤_, _<_}
 use borrow.Author.Tests.{lt-ltb, le-ltb, ltb-true, ltb-false}
 use lib.Dec.{ltb}
 use lib.ListN.{length, set, length-append}
 use lib.Seq.{sets}
-use mathlib.Core.Bool.{true, false}
 use mathlib.Core.List.{List, [], _∷_, _++_}
 use mathlib.Core.Path.{_≡_, refl, ap, sym, _∙_}
 use native.Mathlib.Omega.{arith}
@@ -14,7 +13,8 @@ use Rattle.frame.proofs.Picks.{by-test, pick-true, pick-false}
 use Rattle.frame.proofs.Tests.{either}
 use Rattle.frame.specs.Bytes.{pick}
 use Rattle.report.proofs.Puts.{set-before}
-use Rattle.report.specs.Digits.{widthBy, width, digits, decimal}
+use Rattle.report.specs.Claims.{HexDigits, OneDigit, MoreDigits}
+use Rattle.report.specs.Digits.{hexDigit, widthBy, width, digits, decimal}
 
 -- more tenths than needed change nothing
 enough : (f g n : ℕ) → n ≤ f → n ≤ g → widthBy f n ≡ widthBy g n
@@ -87,3 +87,17 @@ decimal-put buffer after at n w e o =
       output-is = o ∙ ap (λ (k : ℕ). sets buffer at (digits k n)) e;
       next-is = ap (λ (k : ℕ). at + k) (e ∙ sym (length-digits (width n) n));
     }
+
+-- ---- the digits of a number, by its tenths
+
+pub one-digit : OneDigit
+unfolding decimal digits
+one-digit n h = rw (width-one n h) (ap (λ (d : ℕ). (48 + d) ∷ []) (omega arith))
+
+pub more-digits : MoreDigits
+unfolding decimal
+more-digits n h = ap (λ (w : ℕ). digits w n) (width-more n h ∙ omega arith) ∙ digits-last (width (n / 10)) n
+
+pub hex-digits : HexDigits
+unfolding hexDigit pick
+hex-digits = refl

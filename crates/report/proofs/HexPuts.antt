@@ -1,9 +1,8 @@
 -- A byte's two hex digits and what stands behind them are three stores.
 use Prim.Native.Nat.{ℕ, suc, _+_, _/_, _%_}
-use lib.ListN.{length, set}
+use lib.ListN.{set}
 use mathlib.Core.List.{List, [], _∷_, _++_}
 use mathlib.Core.Path.{_≡_, refl}
-use native.Mathlib.Numerals.{add-one}
 use native.Mathlib.Omega.{arith}
 use Rattle.execution.specs.Putting.{Put}
 use Rattle.report.specs.Digits.{hexDigit, hexByte}

@@ -1,9 +1,13 @@
 pub mod CallLines
+pub mod Claimed
+pub mod Counted
 pub mod Decimals
 pub mod HexPuts
 pub mod LinePuts
+pub mod LinesOfCalls
 pub mod Pieces
 pub mod Puts
 pub mod Reports
 pub mod Sampled
 pub mod TooLong
+pub mod Whole

@@ -1,6 +1,6 @@
 -- The lines of the report, put piece behind piece.
-use Prim.Native.Nat.{ℕ, suc, _+_, _*_, _≤_, _<_}
-use lib.ListN.{length, take, drop, set, getD, length-append, drop-of-length-le}
+use Prim.Native.Nat.{ℕ, _+_, _*_, _≤_, _<_}
+use lib.ListN.{length, drop, set, getD, drop-of-length-le}
 use lib.Seq.{sets, take-length, drop-cons}
 use mathlib.Core.List.{List, [], _∷_, _++_}
 use mathlib.Core.Path.{_≡_, refl, ap, sym, _∙_}

@@ -1,11 +1,11 @@
 -- The report in pieces: what holds of the buffer and the state at every line.
 use Prim.Native.Nat.{ℕ, zero, suc, _+_, _-_, _≤_, _<_}
 use lib.ListN.{length, take, drop, replicate, length-append}
-use lib.Seq.{sets, sets-eq, length-sets, length-take-le, take-at, drop-drop}
+use lib.Seq.{sets-eq, length-sets, length-take-le, take-at, drop-drop}
 use mathlib.Core.Bool.{Bool, true, false}
-use mathlib.Core.List.{List, [], _∷_, _++_, append-assoc}
+use mathlib.Core.List.{List, _++_, append-assoc}
 use mathlib.Core.Logic.{_⊎_, inl, inr, ⊎-elim}
-use mathlib.Core.Path.{_≡_, refl, ap, sym, subst, _∙_}
+use mathlib.Core.Path.{_≡_, refl, ap, sym, _∙_}
 use native.Mathlib.Omega.{arith}
 use Rattle.bench.specs.Machine.{State, Call, call, Step, step, after}
 use Rattle.execution.specs.Putting.{Put}
@@ -16,7 +16,7 @@ use Rattle.frame.specs.Bytes.{pick}
 use Rattle.report.proofs.Reports.{never, moves, report-more}
 use Rattle.report.specs.Lines.{lineOf, ends}
 use Rattle.report.specs.Report.{reportFrom}
-use Rattle.report.specs.Writing.{OneLine, Piece, Refused, Wrote}
+use Rattle.report.specs.Writing.{OneLine, Wrote}
 use Rattle.report.specs.declared.writing.Progress.{Progress}
 use Rattle.report.specs.declared.writing.Room.the-variants.{Enough, TooShort}
 use Rattle.report.specs.declared.writing.Written.{Written}

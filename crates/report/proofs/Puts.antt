@@ -1,9 +1,9 @@
 -- Pieces put one behind the other are one piece.
-use Prim.Native.Nat.{ℕ, suc, _+_, _≤_, _<_}
+use Prim.Native.Nat.{ℕ, suc, _+_, _≤_}
 use lib.ListN.{length, set, length-append}
 use lib.Seq.{sets, set-comm}
 use mathlib.Core.List.{List, [], _∷_, _++_}
-use mathlib.Core.Path.{_≡_, refl, ap, sym, _∙_}
+use mathlib.Core.Path.{_≡_, refl, ap, _∙_}
 use native.Mathlib.Omega.{arith}
 use Rattle.execution.proofs.Rounds.{sets-join}
 use Rattle.execution.specs.Putting.{Put}

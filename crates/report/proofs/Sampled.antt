@@ -1,6 +1,5 @@
 -- What is computed: document 01's sample report, and the report on an empty image.
-use Prim.Native.Nat.{ℕ}
-use mathlib.Core.Path.{_≡_, refl}
+use mathlib.Core.Path.{refl}
 use Rattle.bench.proofs.Computed.{everything}
 use Rattle.report.specs.Claims.{SampleReport, EmptyImage}
 use Rattle.report.specs.Digits.{hexDigit, hexByte, widthBy, width, digits, decimal}

@@ -1,18 +1,21 @@
 -- The claims page of the report: what is promised of its definition, each as a named statement with document 01's words beside it. Each
 -- is proved in proofs/Claimed.antt. That the code writes this report is the contract of `report::writing::write`.
-use Prim.Native.Nat.{ℕ, _+_, _-_, _≤_, _<_}
-use mathlib.Core.Bool.{Bool, true, false}
-use mathlib.Core.List.{List, [], _∷_, _++_}
+use Prim.Native.Nat.{ℕ, _+_, _-_, _/_, _%_, _≤_, _<_}
+use mathlib.Core.Bool.{Bool, true, false, not}
+use mathlib.Core.List.{List, [], _∷_, _++_, map}
 use mathlib.Core.Logic.{_⊎_}
 use mathlib.Core.Path.{_≡_}
 use lib.Dec.{eqb}
-use lib.ListN.{length, replicate}
+use lib.ListN.{length, drop, replicate}
 use Rattle.bench.specs.Claims.{answerOf, count, isDropped, takes}
 use Rattle.bench.specs.Machine.{State, call, Step, numberOf, actIn, restOf, step, run, after}
 use Rattle.bench.specs.Sample.{sample}
+use Rattle.bench.specs.declared.outcome.Outcome.{Outcome}
+use Rattle.bench.specs.declared.outcome.Outcome.the-variants.{Answered, AtEnd, Incomplete, Dropped, PastEnd, BadImage, ShortOutput, FullTally}
 use Rattle.frame.specs.Bytes.{byte, number}
-use Rattle.report.specs.Lines.{dropLine, frameLine, countsLine, refusedLine, lineOf}
-use Rattle.report.specs.Report.{steps, reportFrom, tooLong, fresh, reportOf}
+use Rattle.report.specs.Digits.{hexDigit, decimal}
+use Rattle.report.specs.Lines.{tooLongLine, dropLine, frameLine, countsLine, refusedLine, lineOf}
+use Rattle.report.specs.Report.{linesOf, reportFrom, tooLong, fresh, reportOf}
 use Rattle.tag.specs.Answers.{answer}
 use Rattle.tag.specs.Image.{good}
 
@@ -40,3 +43,109 @@ SampleReport = reportOf sampleCommands sample ≡ sampleReport
 -- "A call answered 10 to 13 gives only `REFUSED` and the number": a tag.img that is empty, with any commands that are not too long or none
 abbrev pub EmptyImage : Type 0
 EmptyImage = reportOf [] [] ≡ 82 ∷ 69 ∷ 70 ∷ 85 ∷ 83 ∷ 69 ∷ 68 ∷ 32 ∷ 49 ∷ 49 ∷ 10 ∷ []
+
+-- "a longer file gives only `TOO LONG`"
+abbrev pub TooLongReport : Type 0
+TooLongReport = (commands image : List ℕ) → tooLong (length commands) (length image) ≡ true → reportOf commands image ≡ tooLongLine
+
+-- ---- the digits
+
+-- The digits of a byte are `0` to `9` and `A` to `F`. A number below ten is its digit; any other is the digits of its tenth, and its
+-- last digit: so no number begins with a zero but 0 itself.
+abbrev pub HexDigits : Type 0
+HexDigits =
+    map hexDigit (0 ∷ 1 ∷ 2 ∷ 3 ∷ 4 ∷ 5 ∷ 6 ∷ 7 ∷ 8 ∷ 9 ∷ 10 ∷ 11 ∷ 12 ∷ 13 ∷ 14 ∷ 15 ∷ [])
+    ≡ 48 ∷ 49 ∷ 50 ∷ 51 ∷ 52 ∷ 53 ∷ 54 ∷ 55 ∷ 56 ∷ 57 ∷ 65 ∷ 66 ∷ 67 ∷ 68 ∷ 69 ∷ 70 ∷ []
+
+abbrev pub OneDigit : Type 0
+OneDigit = (n : ℕ) → n < 10 → decimal n ≡ (48 + n) ∷ []
+
+abbrev pub MoreDigits : Type 0
+MoreDigits = (n : ℕ) → 10 ≤ n → decimal n ≡ decimal (n / 10) ++ ((48 + n % 10) ∷ [])
+
+-- ---- the line of a call
+
+-- "one line for each answer 0 or 3": the frame that answers the command, and the byte that is dropped
+abbrev pub FrameLines : Type 0
+FrameLines =
+    (input : List ℕ) (s : State) → answerOf (call input) s ≡ 0
+    → lineOf input s (step (call input) s) ≡ frameLine (answer (s .image) (actIn s (restOf (call input) s)))
+
+abbrev pub DropLines : Type 0
+DropLines =
+    (input : List ℕ) (s : State) → answerOf (call input) s ≡ 3 → lineOf input s (step (call input) s) ≡ dropLine (byte input (s .cursor))
+
+-- "then the counts; LEFT is what remains at answer 1 or 2"
+abbrev pub CountLines : Type 0
+CountLines =
+    (input : List ℕ) (s : State) → (answerOf (call input) s ≡ 1) ⊎ (answerOf (call input) s ≡ 2)
+    → lineOf input s (step (call input) s) ≡ countsLine (s .tally) (length input - s .cursor)
+
+-- "A call answered 10 to 13 gives only `REFUSED` and the number."
+abbrev pub RefusedLines : Type 0
+RefusedLines =
+    (input : List ℕ) (s : State) → 10 ≤ answerOf (call input) s → lineOf input s (step (call input) s) ≡ refusedLine (answerOf (call input) s)
+
+-- The report from any state is the line of one call, and the report from the state that the call left, unless the call ends it.
+abbrev pub LineByLine : Type 0
+LineByLine =
+    (input : List ℕ) (s : State)
+    → reportFrom input false s
+    ≡ lineOf input s (step (call input) s) ++ reportFrom input (not (takes (step (call input) s))) (step (call input) s .next)
+
+-- ---- the whole report
+
+-- k calls on one input, from the program's start
+abbrev pub made : ℕ → List ℕ → List ℕ → List Step
+made k commands image = run (replicate k (call commands)) (fresh image)
+
+abbrev pub left : ℕ → List ℕ → List ℕ → State
+left k commands image = after (replicate k (call commands)) (fresh image)
+
+-- On a good image the report is the lines of calls answered 0 or 3, in order and at most one for each byte, then the counts.
+abbrev pub GoodImageReport : Type 0
+GoodImageReport =
+    (commands image : List ℕ)
+    → tooLong (length commands) (length image) ≡ false
+    → good image ≡ true
+    → (k : ℕ)
+    × (k ≤ length commands)
+    × (count takes (made k commands image) ≡ k)
+    × (reportOf commands image
+    ≡ linesOf commands (fresh image) (made k commands image)
+    ++ countsLine (left k commands image .tally) (length commands - left k commands image .cursor))
+
+-- "gives only `REFUSED` and the number": a refusal is the whole report, and its number is 11
+abbrev pub BadImageReport : Type 0
+BadImageReport =
+    (commands image : List ℕ) → tooLong (length commands) (length image) ≡ false → good image ≡ false → reportOf commands image ≡ refusedLine 11
+
+-- After any number of calls GOOD and ERROR together are the number of frame lines, and DROPPED that of DROP lines.
+unfoldable pub isFrame : Step → Bool
+isFrame x = eqb (numberOf (x .outcome)) 0
+
+abbrev pub CountsAreLines : Type 0
+CountsAreLines =
+    (k : ℕ) (commands image : List ℕ)
+    → (left k commands image .tally .good + left k commands image .tally .error ≡ count isFrame (made k commands image))
+    × (left k commands image .tally .dropped ≡ count isDropped (made k commands image))
+
+-- What was dropped, what the commands took ("A frame has 7 + PL bytes.") and LEFT are together the length of the input.
+unfoldable pub tookBy : Outcome → ℕ → ℕ
+tookBy Answered pl = 7 + pl
+tookBy Dropped pl = 1
+tookBy AtEnd pl = 0
+tookBy Incomplete pl = 0
+tookBy PastEnd pl = 0
+tookBy BadImage pl = 0
+tookBy ShortOutput pl = 0
+tookBy FullTally pl = 0
+
+unfoldable pub took : List ℕ → State → List Step → ℕ
+took input s [] = 0
+took input s (x ∷ rest) = tookBy (x .outcome) (number (drop (s .cursor) input) 3) + took input (x .next) rest
+
+abbrev pub BytesAddUp : Type 0
+BytesAddUp =
+    (k : ℕ) (commands image : List ℕ)
+    → took commands (fresh image) (made k commands image) + (length commands - left k commands image .cursor) ≡ length commands

@@ -6,7 +6,7 @@ use mathlib.Core.Path.{_≡_}
 use lib.ListN.{length, take, drop, replicate}
 use Rattle.bench.specs.Machine.{stateOf}
 use Rattle.bench.specs.Counts.{freshTally}
-use Rattle.bench.specs.Machine.{State, call, Step, step}
+use Rattle.bench.specs.Machine.{State, call, step}
 use Rattle.bench.specs.Machine.{after as afterCalls}
 use Rattle.bench.specs.declared.calling.Called.{Called}
 use Rattle.bench.specs.declared.outcome.Outcome.the-variants.{Answered}

@@ -2,7 +2,7 @@
 use Prim.Native.Nat.{ℕ, _≤_}
 use lib.ListN.{length, length-set}
 use lib.Seq.{sets}
-use mathlib.Core.List.{List, []}
+use mathlib.Core.List.{[]}
 use mathlib.Core.Path.{_≡_, refl, ap, _∙_}
 use native.Mathlib.Omega.{arith}
 use Rattle.report.proofs.Decimals.{digit-put, digits-none, decimal-put}
@@ -10,9 +10,6 @@ use Rattle.report.specs.Digits.{digits}
 use borrow.Author.Needs.{needs}
 use Rattle.report.proofs.digits.put_decimal.Statement.{statement}
 use Rattle.report.proofs.digits.put_decimal.Tie as tie
-use Rattle.report.proofs.digits.put_decimal.Reads as reads
-use Rattle.report.proofs.digits.put_decimal.Lts as lts
-use Rattle.report.proofs.digits.width.Reads as width-reads
 
 abbrev Inv-loop : tie.InvT-loop
 Inv-loop buffer₀ at n w left₀ i₀ buffer left i =
@@ -21,39 +18,30 @@ Inv-loop buffer₀ at n w left₀ i₀ buffer left i =
 abbrev μ-loop : tie.MeasureT-loop
 μ-loop buffer₀ at n w left₀ i₀ buffer left i = i
 
--- src/digits.rt:50:9
 width-requires : tie.Need-width-requires Inv-loop μ-loop
 width-requires c κs = search needs
 
--- src/digits.rt:53:5
 loop-holds : tie.Need-loop-holds Inv-loop μ-loop
 loop-holds c = (omega arith, (refl, refl))
 
--- src/digits.rt:54:9
 sub-i : tie.Need-sub-i Inv-loop μ-loop
 sub-i c = omega arith
 
--- src/digits.rt:55:31
 cast-buffer : tie.Need-cast-buffer Inv-loop μ-loop
 cast-buffer c = omega arith
 
--- src/digits.rt:55:26
 add-buffer : tie.Need-add-buffer Inv-loop μ-loop
 add-buffer c = omega arith
 
--- src/digits.rt:55:16
 add-buffer-2 : tie.Need-add-buffer-2 Inv-loop μ-loop
 add-buffer-2 c = omega arith
 
--- src/digits.rt:55:9
 slice-write-buffer : tie.Need-slice-write-buffer Inv-loop μ-loop
 slice-write-buffer c = omega arith
 
--- src/digits.rt:53:5
 loop-less : tie.Need-loop-less Inv-loop μ-loop
 loop-less c = omega arith
 
--- src/digits.rt:53:5
 loop-again : tie.Need-loop-again Inv-loop μ-loop
 loop-again c =
     let l = c .before .loop in (
@@ -64,15 +52,12 @@ loop-again c =
       ),
     )
 
--- src/digits.rt:58:5
 add-result : tie.Need-add-result Inv-loop μ-loop
 add-result c = omega arith
 
--- src/digits.rt:45:1
 same-length : tie.Need-same-length Inv-loop μ-loop
 same-length c = search needs
 
--- src/digits.rt:45:1
 returns : tie.Need-returns Inv-loop μ-loop
 returns c =
     let l = c .before .loop in

@@ -6,8 +6,6 @@ use Rattle.report.proofs.Decimals.{width-one, width-more, width-64}
 use Rattle.report.specs.Digits.{width}
 use Rattle.report.proofs.digits.width.Statement.{statement}
 use Rattle.report.proofs.digits.width.Tie as tie
-use Rattle.report.proofs.digits.width.Reads as reads
-use Rattle.report.proofs.digits.width.Lts as lts
 
 abbrev Inv-loop : tie.InvT-loop
 Inv-loop n left₀ w₀ left w = w + width left ≡ 1 + width n
@@ -15,27 +13,22 @@ Inv-loop n left₀ w₀ left w = w + width left ≡ 1 + width n
 abbrev μ-loop : tie.MeasureT-loop
 μ-loop n left₀ w₀ left w = left
 
--- src/digits.rt:37:5
 loop-holds : tie.Need-loop-holds Inv-loop μ-loop
 loop-holds c = refl
 
--- src/digits.rt:39:9
 add-w : tie.Need-add-w Inv-loop μ-loop
 add-w c =
     let l = c .before .loop in
     omega (arith, l .inv, width-more (l .left) (c .loop-test .taken), width-64 (c .before .before .args .n) (omega arith))
 
--- src/digits.rt:37:5
 loop-less : tie.Need-loop-less Inv-loop μ-loop
 loop-less c = omega arith
 
--- src/digits.rt:37:5
 loop-again : tie.Need-loop-again Inv-loop μ-loop
 loop-again c =
     let l = c .before .loop in
     omega (arith, l .inv, width-more (l .left) (c .loop-test .taken))
 
--- src/digits.rt:31:1
 returns : tie.Need-returns Inv-loop μ-loop
 returns c =
     let l = c .before .loop in

@@ -2,14 +2,10 @@
 use Rattle.report.proofs.TooLong.{by-commands, by-image}
 use Rattle.report.proofs.limits.too_long.Statement.{statement}
 use Rattle.report.proofs.limits.too_long.Tie as tie
-use Rattle.report.proofs.limits.too_long.Reads as reads
-use Rattle.report.proofs.limits.too_long.Lts as lts
 
--- src/limits.rt:12:9
 returns : tie.Need-returns
 returns c = by-commands _ _ (c .if1 .taken)
 
--- src/limits.rt:8:1
 returns-2 : tie.Need-returns-2
 returns-2 c = by-image _ _ (c .if1 .left)
 

@@ -4,27 +4,19 @@ use Rattle.report.specs.Lines.{tooLongLine}
 use borrow.Author.Needs.{needs}
 use Rattle.report.proofs.limits.write_too_long.Statement.{statement}
 use Rattle.report.proofs.limits.write_too_long.Tie as tie
-use Rattle.report.proofs.limits.write_too_long.Reads as reads
-use Rattle.report.proofs.limits.write_too_long.Lts as lts
-use Rattle.report.proofs.lines.put_text.Reads as put-text-reads
 
--- src/limits.rt:23:9
 returns : tie.Need-returns
 returns c = untold _ (c .if1 .taken)
 
--- src/limits.rt:25:25
 slice-aggregate-put-text : tie.Need-slice-aggregate-put-text
 slice-aggregate-put-text c = search needs
 
--- src/limits.rt:25:5
 put-text-requires : tie.Need-put-text-requires
 put-text-requires c κs = search needs
 
--- src/limits.rt:19:1
 same-length : tie.Need-same-length
 same-length c = search needs
 
--- src/limits.rt:19:1
 returns-2 : tie.Need-returns-2
 unfolding tooLongLine
 returns-2 c = told _ _ _ (c .before .before .before .before .before .if1 .left) (c .before .before .put-text .ensures)

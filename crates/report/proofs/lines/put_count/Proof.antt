@@ -4,24 +4,16 @@ use Rattle.report.proofs.LinePuts.{count-put}
 use borrow.Author.Needs.{needs}
 use Rattle.report.proofs.lines.put_count.Statement.{statement}
 use Rattle.report.proofs.lines.put_count.Tie as tie
-use Rattle.report.proofs.lines.put_count.Reads as reads
-use Rattle.report.proofs.lines.put_count.Lts as lts
-use Rattle.report.proofs.digits.put_decimal.Reads as put-decimal-reads
-use Rattle.report.proofs.lines.put_text.Reads as put-text-reads
 
--- src/lines.rt:27:9
 put-text-requires : tie.Need-put-text-requires
 put-text-requires c κs = search needs
 
--- src/lines.rt:28:5
 put-decimal-requires : tie.Need-put-decimal-requires
 put-decimal-requires c κs = search needs
 
--- src/lines.rt:22:1
 same-length : tie.Need-same-length
 same-length c = search needs
 
--- src/lines.rt:22:1
 returns : tie.Need-returns
 returns c =
     let number = c .before .before .put-decimal .ensures in

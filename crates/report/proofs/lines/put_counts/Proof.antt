@@ -6,36 +6,25 @@ use Rattle.report.specs.Lines.{leftWord}
 use borrow.Author.Needs.{needs}
 use Rattle.report.proofs.lines.put_counts.Statement.{statement}
 use Rattle.report.proofs.lines.put_counts.Tie as tie
-use Rattle.report.proofs.lines.put_counts.Reads as reads
-use Rattle.report.proofs.lines.put_counts.Lts as lts
-use Rattle.report.proofs.lines.put_count.Reads as put-count-reads
-use Rattle.report.proofs.lines.put_tally.Reads as put-tally-reads
 
--- src/lines.rt:46:9
 put-tally-requires : tie.Need-put-tally-requires
 put-tally-requires c κs = search needs
 
--- src/lines.rt:47:42
 slice-aggregate-put-count : tie.Need-slice-aggregate-put-count
 slice-aggregate-put-count c = search needs
 
--- src/lines.rt:47:9
 put-count-requires : tie.Need-put-count-requires
 put-count-requires c κs = search needs
 
--- src/lines.rt:48:5
 slice-write-buffer : tie.Need-slice-write-buffer
 slice-write-buffer c = search needs
 
--- src/lines.rt:49:5
 add-result : tie.Need-add-result
 add-result c = search needs
 
--- src/lines.rt:42:1
 same-length : tie.Need-same-length
 same-length c = simp length-set (omega (arith, c .before .before .put-count .kept .0, c .before .before .before .before .before .before .before .put-tally .kept .0))
 
--- src/lines.rt:42:1
 returns : tie.Need-returns
 unfolding leftWord
 returns c =

@@ -4,28 +4,19 @@ use Rattle.report.specs.Lines.{dropWord}
 use borrow.Author.Needs.{needs}
 use Rattle.report.proofs.lines.put_drop.Statement.{statement}
 use Rattle.report.proofs.lines.put_drop.Tie as tie
-use Rattle.report.proofs.lines.put_drop.Reads as reads
-use Rattle.report.proofs.lines.put_drop.Lts as lts
-use Rattle.report.proofs.digits.put_hex.Reads as put-hex-reads
-use Rattle.report.proofs.lines.put_text.Reads as put-text-reads
 
--- src/lines.rt:65:37
 slice-aggregate-put-text : tie.Need-slice-aggregate-put-text
 slice-aggregate-put-text c = search needs
 
--- src/lines.rt:65:9
 put-text-requires : tie.Need-put-text-requires
 put-text-requires c κs = search needs
 
--- src/lines.rt:66:5
 put-hex-requires : tie.Need-put-hex-requires
 put-hex-requires c κs = search needs
 
--- src/lines.rt:61:1
 same-length : tie.Need-same-length
 same-length c = search needs
 
--- src/lines.rt:61:1
 returns : tie.Need-returns
 unfolding dropWord
 returns c = drop-put _ _ _ _ _ _ _ (c .before .before .before .before .before .before .put-text .ensures) (c .before .before .put-hex .ensures)

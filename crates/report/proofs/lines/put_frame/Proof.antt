@@ -10,10 +10,6 @@ use Rattle.report.specs.Lines.{frameLine}
 use borrow.Author.Needs.{needs}
 use Rattle.report.proofs.lines.put_frame.Statement.{statement}
 use Rattle.report.proofs.lines.put_frame.Tie as tie
-use Rattle.report.proofs.lines.put_frame.Reads as reads
-use Rattle.report.proofs.lines.put_frame.Lts as lts
-use Rattle.report.proofs.digits.put_hex.Reads as put-hex-reads
-use Rattle.report.proofs.lines.behind.Reads as behind-reads
 
 abbrev Inv-loop : tie.InvT-loop
 Inv-loop buffer₀ at frame i₀ next₀ buffer i next =
@@ -24,35 +20,27 @@ Inv-loop buffer₀ at frame i₀ next₀ buffer i next =
 abbrev μ-loop : tie.MeasureT-loop
 μ-loop buffer₀ at frame i₀ next₀ buffer i next = length frame - i
 
--- src/lines.rt:87:5
 loop-holds : tie.Need-loop-holds Inv-loop μ-loop
 loop-holds c = (omega arith, (omega arith, (refl, refl)))
 
--- src/lines.rt:88:38
 shared-slice-read-put-hex : tie.Need-shared-slice-read-put-hex Inv-loop μ-loop
 shared-slice-read-put-hex c = omega arith
 
--- src/lines.rt:88:62
 add-behind : tie.Need-add-behind Inv-loop μ-loop
 add-behind c = omega arith
 
--- src/lines.rt:88:48
 behind-requires : tie.Need-behind-requires Inv-loop μ-loop
 behind-requires c κs = omega arith
 
--- src/lines.rt:88:9
 put-hex-requires : tie.Need-put-hex-requires Inv-loop μ-loop
 put-hex-requires c κs = omega arith
 
--- src/lines.rt:89:9
 add-i : tie.Need-add-i Inv-loop μ-loop
 add-i c = omega arith
 
--- src/lines.rt:87:5
 loop-less : tie.Need-loop-less Inv-loop μ-loop
 loop-less c = omega arith
 
--- src/lines.rt:87:5
 loop-again : tie.Need-loop-again Inv-loop μ-loop
 loop-again c =
     let l = c .before .before .before .before .before .before .before .loop in
@@ -66,11 +54,9 @@ loop-again c =
       ),
     )
 
--- src/lines.rt:80:1
 same-length : tie.Need-same-length Inv-loop μ-loop
 same-length c = search needs
 
--- src/lines.rt:80:1
 returns : tie.Need-returns Inv-loop μ-loop
 returns c =
     let l = c .before .loop in

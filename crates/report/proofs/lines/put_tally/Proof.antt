@@ -5,51 +5,37 @@ use Rattle.report.specs.Lines.{goodWord, errorWord, droppedWord}
 use borrow.Author.Needs.{needs}
 use Rattle.report.proofs.lines.put_tally.Statement.{statement}
 use Rattle.report.proofs.lines.put_tally.Tie as tie
-use Rattle.report.proofs.lines.put_tally.Reads as reads
-use Rattle.report.proofs.lines.put_tally.Lts as lts
-use Rattle.report.proofs.lines.put_count.Reads as put-count-reads
 
--- src/lines.rt:37:40
 slice-aggregate-put-count : tie.Need-slice-aggregate-put-count
 slice-aggregate-put-count c = search needs
 
--- src/lines.rt:37:50
 cast-put-count : tie.Need-cast-put-count
 cast-put-count c = search needs
 
--- src/lines.rt:37:9
 put-count-requires : tie.Need-put-count-requires
 put-count-requires c κs = search needs
 
--- src/lines.rt:38:43
 slice-aggregate-put-count-2 : tie.Need-slice-aggregate-put-count-2
 slice-aggregate-put-count-2 c = search needs
 
--- src/lines.rt:38:55
 cast-put-count-2 : tie.Need-cast-put-count-2
 cast-put-count-2 c = search needs
 
--- src/lines.rt:38:9
 put-count-requires-2 : tie.Need-put-count-requires-2
 put-count-requires-2 c κs = search needs
 
--- src/lines.rt:39:30
 slice-aggregate-put-count-3 : tie.Need-slice-aggregate-put-count-3
 slice-aggregate-put-count-3 c = search needs
 
--- src/lines.rt:39:44
 cast-put-count-3 : tie.Need-cast-put-count-3
 cast-put-count-3 c = search needs
 
--- src/lines.rt:39:5
 put-count-requires-3 : tie.Need-put-count-requires-3
 put-count-requires-3 c κs = search needs
 
--- src/lines.rt:32:1
 same-length : tie.Need-same-length
 same-length c = search needs
 
--- src/lines.rt:32:1
 returns : tie.Need-returns
 unfolding goodWord errorWord droppedWord
 returns c =

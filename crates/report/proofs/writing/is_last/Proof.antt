@@ -3,77 +3,59 @@ use Rattle.report.specs.Lines.{ends}
 use borrow.Author.Needs.{needs}
 use Rattle.report.proofs.writing.is_last.Statement.{statement}
 use Rattle.report.proofs.writing.is_last.Tie as tie
-use Rattle.report.proofs.writing.is_last.Reads as reads
-use Rattle.report.proofs.writing.is_last.Lts as lts
 
--- src/writing.rt:65:30
 enum-told : tie.Need-enum-told
 enum-told c = search needs
 
--- src/writing.rt:66:29
 enum-told-2 : tie.Need-enum-told-2
 enum-told-2 c = search needs
 
--- src/writing.rt:67:27
 enum-told-3 : tie.Need-enum-told-3
 enum-told-3 c = search needs
 
--- src/writing.rt:68:32
 enum-told-4 : tie.Need-enum-told-4
 enum-told-4 c = search needs
 
--- src/writing.rt:69:29
 enum-told-5 : tie.Need-enum-told-5
 enum-told-5 c = search needs
 
--- src/writing.rt:70:30
 enum-told-6 : tie.Need-enum-told-6
 enum-told-6 c = search needs
 
--- src/writing.rt:71:33
 enum-told-7 : tie.Need-enum-told-7
 enum-told-7 c = search needs
 
--- src/writing.rt:72:31
 enum-told-8 : tie.Need-enum-told-8
 enum-told-8 c = search needs
 
--- src/writing.rt:61:1
 returns : tie.Need-returns
 unfolding ends
 returns c = rw (c .enum-told .given .1)
 
--- src/writing.rt:61:1
 returns-2 : tie.Need-returns-2
 unfolding ends
 returns-2 c = rw (c .enum-told2 .given .1)
 
--- src/writing.rt:61:1
 returns-3 : tie.Need-returns-3
 unfolding ends
 returns-3 c = rw (c .enum-told3 .given .1)
 
--- src/writing.rt:61:1
 returns-4 : tie.Need-returns-4
 unfolding ends
 returns-4 c = rw (c .enum-told4 .given .1)
 
--- src/writing.rt:61:1
 returns-5 : tie.Need-returns-5
 unfolding ends
 returns-5 c = rw (c .enum-told5 .given .1)
 
--- src/writing.rt:61:1
 returns-6 : tie.Need-returns-6
 unfolding ends
 returns-6 c = rw (c .enum-told6 .given .1)
 
--- src/writing.rt:61:1
 returns-7 : tie.Need-returns-7
 unfolding ends
 returns-7 c = rw (c .enum-told7 .given .1)
 
--- src/writing.rt:61:1
 returns-8 : tie.Need-returns-8
 unfolding ends
 returns-8 c = rw (c .enum-told8 .given .1)

@@ -9,31 +9,19 @@ use Rattle.report.specs.Lines.{lineFor}
 use borrow.Author.Needs.{needs}
 use Rattle.report.proofs.writing.put_line.Statement.{statement}
 use Rattle.report.proofs.writing.put_line.Tie as tie
-use Rattle.report.proofs.writing.put_line.Reads as reads
-use Rattle.report.proofs.writing.put_line.Lts as lts
-use Rattle.frame.proofs.bytes.byte_at.Reads as byte-at-reads
-use Rattle.report.proofs.lines.put_counts.Reads as put-counts-reads
-use Rattle.report.proofs.lines.put_drop.Reads as put-drop-reads
-use Rattle.report.proofs.lines.put_frame.Reads as put-frame-reads
-use Rattle.report.proofs.lines.put_refused.Reads as put-refused-reads
-use Rattle.report.proofs.writing.remaining.Reads as remaining-reads
 
--- src/writing.rt:90:9
 remaining-requires : tie.Need-remaining-requires
 remaining-requires c κs = search needs
 
--- src/writing.rt:92:40
 enum-told : tie.Need-enum-told
 enum-told c = search needs
 
--- src/writing.rt:92:52
 slice-aggregate-put-frame : tie.Need-slice-aggregate-put-frame
 slice-aggregate-put-frame c =
     let start = c .before .before .before .before .before .before .before .before in
     let framed = start .pre .framed (c .before .before .enum-told .given .1) in
     sym (length-take-le (start .args .called .length) (start .args .output .now) (framed .there))
 
--- src/writing.rt:92:30
 put-frame-requires : tie.Need-put-frame-requires
 put-frame-requires c κs =
     let start = c .before .before .before .before .before .before .before .before in
@@ -41,82 +29,63 @@ put-frame-requires c κs =
     let all = length-take-le (start .args .called .length) (start .args .output .now) (framed .there) in
     (start .pre .room, (omega (arith, all, framed .some), omega (arith, all, framed .at-most-136)))
 
--- src/writing.rt:93:38
 enum-told-2 : tie.Need-enum-told-2
 enum-told-2 c = search needs
 
--- src/writing.rt:93:50
 byte-at-requires : tie.Need-byte-at-requires
 byte-at-requires c κs = search needs
 
--- src/writing.rt:93:29
 put-drop-requires : tie.Need-put-drop-requires
 put-drop-requires c κs = search needs
 
--- src/writing.rt:94:38
 enum-told-3 : tie.Need-enum-told-3
 enum-told-3 c = search needs
 
--- src/writing.rt:94:27
 put-counts-requires : tie.Need-put-counts-requires
 put-counts-requires c κs = search needs
 
--- src/writing.rt:95:43
 enum-told-4 : tie.Need-enum-told-4
 enum-told-4 c = search needs
 
--- src/writing.rt:95:32
 put-counts-requires-2 : tie.Need-put-counts-requires-2
 put-counts-requires-2 c κs = search needs
 
--- src/writing.rt:96:41
 enum-told-5 : tie.Need-enum-told-5
 enum-told-5 c = search needs
 
--- src/writing.rt:96:29
 put-refused-requires : tie.Need-put-refused-requires
 put-refused-requires c κs = search needs
 
--- src/writing.rt:97:42
 enum-told-6 : tie.Need-enum-told-6
 enum-told-6 c = search needs
 
--- src/writing.rt:97:30
 put-refused-requires-2 : tie.Need-put-refused-requires-2
 put-refused-requires-2 c κs = search needs
 
--- src/writing.rt:98:45
 enum-told-7 : tie.Need-enum-told-7
 enum-told-7 c = search needs
 
--- src/writing.rt:98:33
 put-refused-requires-3 : tie.Need-put-refused-requires-3
 put-refused-requires-3 c κs = search needs
 
--- src/writing.rt:99:43
 enum-told-8 : tie.Need-enum-told-8
 enum-told-8 c = search needs
 
--- src/writing.rt:99:31
 put-refused-requires-4 : tie.Need-put-refused-requires-4
 put-refused-requires-4 c κs = search needs
 
--- src/writing.rt:77:1
 same-length : tie.Need-same-length
 same-length c = search needs
 
--- src/writing.rt:77:1
 returns : tie.Need-returns
 unfolding lineFor
 returns c =
     let a = c .before .before .before .before .before .before .before .before .before .before .before .args in
     printed-as Answered (a .input .now) (a .cursor) (a .called) (a .output .now) _ _ _ _ (c .before .before .before .before .before .enum-told .given .1) (c .before .before .put-frame .ensures)
 
--- src/writing.rt:77:1
 same-length-2 : tie.Need-same-length-2
 same-length-2 c = search needs
 
--- src/writing.rt:77:1
 returns-2 : tie.Need-returns-2
 unfolding lineFor
 returns-2 c =
@@ -124,11 +93,9 @@ returns-2 c =
     printed-as Dropped (a .input .now) (a .cursor) (a .called) (a .output .now) _ _ _ _ (c .before .before .before .before .before .enum-told2 .given .1)
     (drop-is _ _ (c .before .before .before .byte-at .ensures) (c .before .before .put-drop .ensures))
 
--- src/writing.rt:77:1
 same-length-3 : tie.Need-same-length-3
 same-length-3 c = search needs
 
--- src/writing.rt:77:1
 returns-3 : tie.Need-returns-3
 unfolding lineFor
 returns-3 c =
@@ -136,11 +103,9 @@ returns-3 c =
     printed-as AtEnd (a .input .now) (a .cursor) (a .called) (a .output .now) _ _ _ _ (c .before .before .before .before .enum-told3 .given .1)
     (left-is _ _ _ (c .before .before .before .before .before .before .remaining .ensures) (c .before .before .put-counts .ensures))
 
--- src/writing.rt:77:1
 same-length-4 : tie.Need-same-length-4
 same-length-4 c = search needs
 
--- src/writing.rt:77:1
 returns-4 : tie.Need-returns-4
 unfolding lineFor
 returns-4 c =
@@ -148,44 +113,36 @@ returns-4 c =
     printed-as Incomplete (a .input .now) (a .cursor) (a .called) (a .output .now) _ _ _ _ (c .before .before .before .before .enum-told4 .given .1)
     (left-is _ _ _ (c .before .before .before .before .before .before .remaining .ensures) (c .before .before .put-counts2 .ensures))
 
--- src/writing.rt:77:1
 same-length-5 : tie.Need-same-length-5
 same-length-5 c = search needs
 
--- src/writing.rt:77:1
 returns-5 : tie.Need-returns-5
 unfolding lineFor numberOf
 returns-5 c =
     let a = c .before .before .before .before .before .before .before .before .before .before .args in
     printed-as PastEnd (a .input .now) (a .cursor) (a .called) (a .output .now) _ _ _ _ (c .before .before .before .before .enum-told5 .given .1) (c .before .before .put-refused .ensures)
 
--- src/writing.rt:77:1
 same-length-6 : tie.Need-same-length-6
 same-length-6 c = search needs
 
--- src/writing.rt:77:1
 returns-6 : tie.Need-returns-6
 unfolding lineFor numberOf
 returns-6 c =
     let a = c .before .before .before .before .before .before .before .before .before .before .args in
     printed-as BadImage (a .input .now) (a .cursor) (a .called) (a .output .now) _ _ _ _ (c .before .before .before .before .enum-told6 .given .1) (c .before .before .put-refused2 .ensures)
 
--- src/writing.rt:77:1
 same-length-7 : tie.Need-same-length-7
 same-length-7 c = search needs
 
--- src/writing.rt:77:1
 returns-7 : tie.Need-returns-7
 unfolding lineFor numberOf
 returns-7 c =
     let a = c .before .before .before .before .before .before .before .before .before .before .args in
     printed-as ShortOutput (a .input .now) (a .cursor) (a .called) (a .output .now) _ _ _ _ (c .before .before .before .before .enum-told7 .given .1) (c .before .before .put-refused3 .ensures)
 
--- src/writing.rt:77:1
 same-length-8 : tie.Need-same-length-8
 same-length-8 c = search needs
 
--- src/writing.rt:77:1
 returns-8 : tie.Need-returns-8
 unfolding lineFor numberOf
 returns-8 c =

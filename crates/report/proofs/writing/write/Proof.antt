@@ -10,9 +10,6 @@ use Rattle.report.specs.Writing.{standing}
 use borrow.Author.Needs.{needs}
 use Rattle.report.proofs.writing.write.Statement.{statement}
 use Rattle.report.proofs.writing.write.Tie as tie
-use Rattle.report.proofs.writing.write.Reads as reads
-use Rattle.report.proofs.writing.write.Lts as lts
-use Rattle.report.proofs.writing.write_line.Reads as write-line-reads
 
 abbrev Inv-loop : tie.InvT-loop
 Inv-loop input image₀ output₀ buffer₀ next₀ used₀ image output buffer next used =
@@ -23,45 +20,35 @@ Inv-loop input image₀ output₀ buffer₀ next₀ used₀ image output buffer 
 abbrev μ-loop : tie.MeasureT-loop
 μ-loop input image₀ output₀ buffer₀ next₀ used₀ image output buffer next used = pick (next .over) 0 (suc (length input - next .cursor))
 
--- src/writing.rt:152:9
 returns : tie.Need-returns Inv-loop μ-loop
 returns c = too-short _ _ _ _ (c .if1 .taken)
 
--- src/writing.rt:159:5
 loop-holds : tie.Need-loop-holds Inv-loop μ-loop
 loop-holds c = (refl, (refl, going _ _ _ _))
 
--- src/writing.rt:159:11
 add-loop : tie.Need-add-loop Inv-loop μ-loop
 add-loop c = omega (arith, c .loop .inv .1 .1 .within, c .before .before .before .before .before .before .good .1 .1 .1 .0)
 
--- src/writing.rt:161:13
 same-length : tie.Need-same-length Inv-loop μ-loop
 same-length c = search needs
 
--- src/writing.rt:161:13
 same-length-2 : tie.Need-same-length-2 Inv-loop μ-loop
 same-length-2 c = search needs
 
--- src/writing.rt:161:13
 same-length-3 : tie.Need-same-length-3 Inv-loop μ-loop
 same-length-3 c = search needs
 
--- src/writing.rt:161:13
 returns-2 : tie.Need-returns-2 Inv-loop μ-loop
 returns-2 c =
     let l = c .before .before .loop in
     ended _ _ _ _ _ _ _ (l .next) (c .before .before .before .if1 .left) (l .inv .1 .1) (c .if2 .taken)
 
--- src/writing.rt:167:13
 write-line-requires : tie.Need-write-line-requires Inv-loop μ-loop
 write-line-requires c κs = c .before .before .before .before .loop-test .taken
 
--- src/writing.rt:159:5
 loop-less : tie.Need-loop-less Inv-loop μ-loop
 loop-less c = falls _ _ _ _ _ _ _ _ (c .before .before .before .before .before .before .before .before .before .before .before .if2 .left) (c .before .before .before .before .before .before .before .write-line .ensures)
 
--- src/writing.rt:159:5
 loop-again : tie.Need-loop-again Inv-loop μ-loop
 loop-again c =
     let l = c .before .before .before .before .before .before .before .before .before .before .before .before .before .loop in
@@ -73,19 +60,15 @@ loop-again c =
       ),
     )
 
--- src/writing.rt:138:1
 same-length-4 : tie.Need-same-length-4 Inv-loop μ-loop
 same-length-4 c = search needs
 
--- src/writing.rt:138:1
 same-length-5 : tie.Need-same-length-5 Inv-loop μ-loop
 same-length-5 c = search needs
 
--- src/writing.rt:138:1
 same-length-6 : tie.Need-same-length-6 Inv-loop μ-loop
 same-length-6 c = search needs
 
--- src/writing.rt:138:1
 returns-3 : tie.Need-returns-3 Inv-loop μ-loop
 returns-3 c =
     let l = c .before .loop in

@@ -1,0 +1,85 @@
+-- The line of a call by its answer number.
+use Prim.Native.Nat.{ℕ, _-_, _≤_}
+use lib.Dec.{eqb}
+use lib.ListN.{length, take}
+use mathlib.Core.List.{List}
+use mathlib.Core.Logic.{_≢_, ⊎-elim}
+use mathlib.Core.Path.{_≡_, refl, ap, sym, _∙_}
+use native.Mathlib.Omega.{arith}
+use Rattle.bench.proofs.Claimed.{nothing-changes, answer-is-one-frame}
+use Rattle.bench.specs.Claims.{answerOf}
+use Rattle.bench.specs.Machine.{State, call, Step, numberOf, step}
+use Rattle.bench.specs.declared.outcome.Outcome.{Outcome}
+use Rattle.bench.specs.declared.outcome.Outcome.the-variants.{Answered, AtEnd, Incomplete, Dropped, PastEnd, BadImage, ShortOutput, FullTally}
+use Rattle.bench.specs.declared.tally.Tally.{Tally}
+use Rattle.frame.specs.Bytes.{pick, byte}
+use Rattle.report.specs.Claims.{FrameLines, DropLines, CountLines, RefusedLines}
+use Rattle.report.specs.Lines.{frameLine, countsLine, refusedLine, lineFor, lineOf}
+
+-- the outcome that has a number
+outcomeOf : ℕ → Outcome
+outcomeOf n =
+    pick (eqb n 0) Answered
+    (pick (eqb n 1) AtEnd
+    (pick (eqb n 2) Incomplete
+    (pick (eqb n 3) Dropped
+    (pick (eqb n 10) PastEnd
+    (pick (eqb n 11) BadImage
+    (pick (eqb n 12) ShortOutput
+    FullTally))))))
+
+named : (o : Outcome) → outcomeOf (numberOf o) ≡ o
+unfolding outcomeOf numberOf pick
+named Answered = refl
+named AtEnd = refl
+named Incomplete = refl
+named Dropped = refl
+named PastEnd = refl
+named BadImage = refl
+named ShortOutput = refl
+named FullTally = refl
+
+line-as : (input : List ℕ) (s : State) (n : ℕ) → answerOf (call input) s ≡ n
+    → lineOf input s (step (call input) s)
+    ≡ lineFor (outcomeOf n) (take (step (call input) s .length) (step (call input) s .next .output)) (byte input (s .cursor))
+    (step (call input) s .next .tally) (length input - step (call input) s .next .cursor)
+unfolding lineOf
+line-as input s n e =
+    let x : Step = step (call input) s in
+    ap (λ (o : Outcome). lineFor o (take (x .length) (x .next .output)) (byte input (s .cursor)) (x .next .tally) (length input - x .next .cursor))
+    (sym (named (x .outcome)) ∙ ap outcomeOf e)
+
+of-refused : (frame : List ℕ) (b : ℕ) (t : Tally) (left : ℕ) (o : Outcome) → 10 ≤ numberOf o → lineFor o frame b t left ≡ refusedLine (numberOf o)
+unfolding lineFor numberOf
+of-refused frame b t left PastEnd h = refl
+of-refused frame b t left BadImage h = refl
+of-refused frame b t left ShortOutput h = refl
+of-refused frame b t left FullTally h = refl
+of-refused frame b t left Answered h = absurd (omega arith)
+of-refused frame b t left Dropped h = absurd (omega arith)
+of-refused frame b t left AtEnd h = absurd (omega arith)
+of-refused frame b t left Incomplete h = absurd (omega arith)
+
+pub frame-lines : FrameLines
+unfolding lineFor outcomeOf pick
+frame-lines input s answered = line-as input s 0 answered ∙ ap frameLine (answer-is-one-frame (call input) s answered .frame-first)
+
+pub drop-lines : DropLines
+unfolding lineFor outcomeOf pick
+drop-lines input s three = line-as input s 3 three
+
+-- nothing changes under answers 1 and 2, so that the counts are those before the call
+counts-before : (input : List ℕ) (s : State) → answerOf (call input) s ≢ 0 → answerOf (call input) s ≢ 3
+    → countsLine (step (call input) s .next .tally) (length input - step (call input) s .next .cursor) ≡ countsLine (s .tally) (length input - s .cursor)
+counts-before input s not0 not3 =
+    ap (λ (t : State). countsLine (t .tally) (length input - t .cursor)) (nothing-changes (call input) s not0 not3 .0)
+
+pub count-lines : CountLines
+unfolding lineFor outcomeOf pick
+count-lines input s =
+    ⊎-elim (λ one. line-as input s 1 one ∙ counts-before input s (λ h. omega arith) (λ h. omega arith))
+    (λ two. line-as input s 2 two ∙ counts-before input s (λ h. omega arith) (λ h. omega arith))
+
+pub refused-lines : RefusedLines
+unfolding lineOf
+refused-lines input s h = of-refused _ _ _ _ (step (call input) s .outcome) h
