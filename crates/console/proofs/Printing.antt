@@ -34,7 +34,7 @@ going commands image output buffer progress e =
       image-length = refl;
       output-length = refl;
       buffer-length = refl;
-      calls = (0, ap (λ (p : Progress). standing image output p) e)
+      calls = (0, ap (λ (p : Progress). standing image output p) e);
     }
 
 pub ran : (commands image₀ output₀ buffer₀ image output buffer : List ℕ) (progress : Progress)
@@ -61,11 +61,12 @@ module _ (commands image₀ output₀ buffer₀ image output buffer image′ out
         image-length = same-image ∙ g .image-length;
         output-length = same-output ∙ g .output-length;
         buffer-length = same-buffer ∙ g .buffer-length;
-        calls =
-          (g .calls .0 + piece .calls .0,
+        calls = (
+          g .calls .0 + piece .calls .0,
           piece .calls .1
-          ∙ ap (λ (s : State). after (replicate (piece .calls .0) (call commands)) s) (g .calls .1)
-          ∙ after-more (call commands) (g .calls .0) (piece .calls .0) (stateOf image₀ output₀ 0 freshTally))
+              ∙ ap (λ (s : State). after (replicate (piece .calls .0) (call commands)) s) (g .calls .1)
+              ∙ after-more (call commands) (g .calls .0) (piece .calls .0) (stateOf image₀ output₀ 0 freshTally),
+        );
       }
 
   -- the bytes that are left
@@ -73,13 +74,14 @@ module _ (commands image₀ output₀ buffer₀ image output buffer image′ out
       → length (reportFrom commands (r .progress .over) (standing image′ output′ (r .progress))) < length (reportFrom commands (progress .over) (standing image output progress))
   nearer on =
       let rest : List ℕ = reportFrom commands (r .progress .over) (standing image′ output′ (r .progress)) in
-      omega
-      (arith,
-      ap (λ (l : List ℕ). length l) (piece .bytes),
-      length-append (take (r .used) buffer′) rest,
-      length-take (r .used) buffer′,
-      piece .some on,
-      used-there)
+      omega (
+        arith,
+        ap (λ (l : List ℕ). length l) (piece .bytes),
+        length-append (take (r .used) buffer′) rest,
+        length-take (r .used) buffer′,
+        piece .some on,
+        used-there,
+      )
 
 -- ---- the whole of it
 

@@ -1,0 +1,56 @@
+// Runs whose reports were worked out by hand from document 01: each heading is followed by the report.
+use frame::copying::copy;
+use libc::STDOUT_FILENO;
+use samples::FALSE_HEADER;
+use samples::FILLER;
+use samples::HISTORY;
+use samples::LONGEST;
+use samples::SAMPLE;
+use samples::TRUNCATED;
+
+fn run(heading: &[u8], commands: &[u8], image: &mut [u8]) {
+    io::write_all(STDOUT_FILENO, heading);
+    console::print(commands, image);
+}
+
+fn on_sample(heading: &[u8], commands: &[u8]) {
+    let mut image = SAMPLE;
+    run(heading, commands, &mut image);
+}
+
+// 376 commands of 87 bytes and one of 56 are 32,768 bytes.
+fn fill(commands: &mut [u8]) {
+    let mut at = 0;
+    while at < 32712 {
+        copy(&LONGEST, 0, 87, commands, at);
+        at += 87;
+    }
+    copy(&FILLER, 0, 56, commands, at);
+}
+
+fn bad_images() {
+    let mut image = SAMPLE;
+    image[1] = 2;
+    run(b"An image of format 2\n", &FALSE_HEADER, &mut image);
+    run(b"An empty image\n", &FALSE_HEADER, &mut image[..0]);
+}
+
+fn long_inputs() {
+    let mut commands = [0u8; 32768];
+    fill(&mut commands);
+    on_sample(b"Exactly 32,768 bytes\n", &commands);
+    on_sample(b"32,769 bytes\n", &[0u8; 32769]);
+    let mut image = [0u8; 2049];
+    run(b"An image of 2,049 bytes\n", &TRUNCATED, &mut image);
+}
+
+fn main() {
+    on_sample(b"A false header with a real frame inside\n", &FALSE_HEADER);
+    on_sample(b"A command that breaks off\n", &TRUNCATED);
+    bad_images();
+    on_sample(
+        b"Later answers depend on what earlier commands stored\n",
+        &HISTORY,
+    );
+    long_inputs();
+}
