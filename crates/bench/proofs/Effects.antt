@@ -191,7 +191,7 @@ no-other-effect c s not-write not-lock not-kill =
 
 pub gaps-stay : GapsStay
 unfolding actIn changed wordAt endOf
-gaps-stay c s i h far gap =
+gaps-stay c s i far gap =
     let image : List ℕ = s .image in
     let p : List ℕ = parametersIn (restOf c s) in
     image-after (λ (new : List ℕ). byte new i ≡ byte image i) c s refl λ h.

@@ -193,7 +193,6 @@ NoOtherEffect = (c : Call) (s : State) → codeOf c s ≢ 0x49 → codeOf c s �
 abbrev pub GapsStay : Type 0
 GapsStay =
     (c : Call) (s : State) (i : ℕ)
-    → good (s .image) ≡ true
     → 24 ≤ i
     → ((bank : ℕ) → bank ≤ 3 → (i < bankOf (view (s .image)) bank .offset) ⊎ (endOf (bankOf (view (s .image)) bank) ≤ i))
     → byte (step c s .next .image) i ≡ byte (s .image) i
