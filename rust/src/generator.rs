@@ -97,7 +97,23 @@ pub fn good_image(random: &mut Random) -> Vec<u8> {
     let epc = pick_or_between(random, &[2, 3, 8, 33], 2, 33);
     let tid = pick_or_between(random, &[1, 2, 32], 1, 32);
     let user = pick_or_between(random, &[0, 1, 16, 32, 33, 512], 0, 64);
-    let words = [4, epc, tid, user];
+    laid_out(random, [4, epc, tid, user])
+}
+
+/// An image of which only one bank's count of words is at its bound or beyond it: the layout fits.
+pub fn image_of_odd_words(random: &mut Random) -> Vec<u8> {
+    let mut words = [4, 8, 3, 16];
+    let bank = random.below(4);
+    words[bank] = match bank {
+        0 => random.pick(&[3, 5]),
+        1 => random.pick(&[1, 2, 33, 34]),
+        2 => random.pick(&[0, 1, 32, 33]),
+        _ => random.pick(&[0, 512, 513]),
+    };
+    laid_out(random, words)
+}
+
+fn laid_out(random: &mut Random, words: [usize; 4]) -> Vec<u8> {
     let mut header = [0u8; 24];
     let mut end = 24;
     for (bank, count) in words.into_iter().enumerate() {
@@ -119,12 +135,13 @@ pub fn good_image(random: &mut Random) -> Vec<u8> {
     let mut image = random.bytes(total);
     image[..24].copy_from_slice(&header);
     set_passwords(random, &mut image);
+    let most = words[1].saturating_sub(2).min(31);
     let length = if random.percent(30) {
-        epc - 2
+        most
     } else {
-        random.below(epc - 1)
+        random.below(most + 1)
     };
-    set_epc_length(&mut image, length.min(31));
+    set_epc_length(&mut image, length);
     image
 }
 

@@ -69,6 +69,8 @@ fn start(random: &mut Random) -> Bench {
     let mut image = generator::good_image(random);
     if random.percent(20) {
         generator::poke_image(random, &mut image);
+    } else if random.percent(5) {
+        image = generator::image_of_odd_words(random);
     }
     let room = random.pick(&[136, 136, 136, 136, 136, 137, 300]);
     let room = if random.percent(4) {
