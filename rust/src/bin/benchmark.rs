@@ -161,47 +161,55 @@ fn run_model(image: &[u8], input: &[u8]) -> (f64, [u64; 5]) {
     (time, state)
 }
 
-fn median(mut times: Vec<f64>) -> f64 {
+fn median(times: &mut [f64]) -> f64 {
     times.sort_by(f64::total_cmp);
     times[times.len() / 2]
 }
 
-/// The medians of the proved bench and of the model, in microseconds.
-fn measure(workload: &Workload, size: usize, rounds: usize) -> (f64, f64) {
-    let input = (workload.input)(size);
-    let mut proved = Vec::new();
-    let mut model = Vec::new();
+/// One turn of both on an input, in microseconds: the proved bench, then the model.
+fn turn(workload: &Workload, input: &[u8]) -> (f64, f64) {
+    let (proved, state) = run_proved(&workload.image, input);
+    let (model, same) = run_model(&workload.image, input);
+    // a workload that does something else than its name says would be timed for nothing
+    assert_eq!(state, same);
+    assert_eq!(state[0], input.len() as u64);
+    assert_eq!(state[3] == 0, workload.accepts);
+    assert_eq!(state[1] + state[2] > 0, workload.accepts);
+    (proved * 1e6, model * 1e6)
+}
+
+/// The medians of both at each size. A round has a turn at every size, so that a slow spell of the
+/// machine falls on all of them alike.
+fn measure(workload: &Workload, rounds: usize) -> [(f64, f64); SIZES.len()] {
+    let inputs = SIZES.map(workload.input);
+    let mut proved = SIZES.map(|_| Vec::new());
+    let mut model = SIZES.map(|_| Vec::new());
     for _ in 0..rounds {
-        let (time, state) = run_proved(&workload.image, &input);
-        proved.push(time);
-        let (time, same) = run_model(&workload.image, &input);
-        model.push(time);
-        // a workload that does something else than its name says would be timed for nothing
-        assert_eq!(state, same);
-        assert_eq!(state[0], input.len() as u64);
-        assert_eq!(state[3] == 0, workload.accepts);
-        assert_eq!(state[1] + state[2] > 0, workload.accepts);
+        for (i, input) in inputs.iter().enumerate() {
+            let times = turn(workload, input);
+            proved[i].push(times.0);
+            model[i].push(times.1);
+        }
     }
-    (median(proved) * 1e6, median(model) * 1e6)
+    std::array::from_fn(|i| (median(&mut proved[i]), median(&mut model[i])))
 }
 
 fn report(workload: &Workload, rounds: usize) -> bool {
     println!("{}", workload.name);
     println!("   bytes   proved us    model us   ratio   growth of proved, of model");
+    let medians = measure(workload, rounds);
     let mut met = true;
-    let mut last: Option<(f64, f64)> = None;
-    for size in SIZES {
-        let (proved, model) = measure(workload, size, rounds);
+    for (i, (proved, model)) in medians.into_iter().enumerate() {
         let ratio = proved / model;
         met &= ratio <= GOAL_RATIO;
-        print!("{size:8} {proved:11.1} {model:11.1} {ratio:7.2}");
-        if let Some((before, model_before)) = last {
-            let growth = proved / before;
+        print!("{:8} {proved:11.1} {model:11.1} {ratio:7.2}", SIZES[i]);
+        if i > 0 {
+            let before = medians[i - 1];
+            let growth = proved / before.0;
             met &= growth <= GOAL_GROWTH;
-            print!("   {growth:.2}, {:.2}", model / model_before);
+            print!("   {growth:.2}, {:.2}", model / before.1);
         }
         println!();
-        last = Some((proved, model));
     }
     met
 }
@@ -209,7 +217,7 @@ fn report(workload: &Workload, rounds: usize) -> bool {
 fn main() {
     let rounds = std::env::args()
         .nth(1)
-        .map_or(51, |a| a.parse().expect("ROUNDS is a number"));
+        .map_or(101, |a| a.parse().expect("ROUNDS is a number"));
     let workloads = [
         Workload {
             name: "noise without BB",
