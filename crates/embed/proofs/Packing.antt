@@ -1,0 +1,76 @@
+-- The packed state: what the stores leave, what three counts are as a tally, and each end of a call.
+use Prim.Native.Nat.{ℕ, _≤_, _<_}
+use borrow.Author.Tests.{lt-ltb, le-ltb, eq-eqb, ne-eqb}
+use lib.ListN.{length, set, getD}
+use mathlib.Core.Bool.{true, false, not}
+use mathlib.Core.List.{List, [], _∷_}
+use mathlib.Core.Path.{_≡_, refl, sym, ap, _∙_}
+use native.Mathlib.Omega.{arith}
+use Rattle.bench.specs.Calls.{left}
+use Rattle.bench.specs.Machine.{stateOf}
+use Rattle.bench.specs.Counts.{limit}
+use Rattle.bench.specs.Machine.{Step, call, step, numberOf}
+use Rattle.bench.specs.declared.calling.Called.{Called}
+use Rattle.bench.specs.declared.tally.Tally.{Tally}
+use Rattle.embed.specs.Packed.{packed, countsOf, Left, leftBy, told, calledWith, called}
+use Rattle.embed.specs.declared.Counts.{Counts}
+use Rattle.embed.specs.declared.Counts.the-variants.{Fit, OutOfRange}
+use Rattle.frame.proofs.Picks.{pick-true, pick-false}
+use Rattle.frame.specs.Bytes.{pick}
+
+-- five stores into a list of five
+pub all-stored : (s : List ℕ) (a b c d e : ℕ) → length s ≡ 5
+    → set (set (set (set (set s 0 a) 1 b) 2 c) 3 d) 4 e ≡ a ∷ b ∷ c ∷ d ∷ e ∷ []
+all-stored (s0 ∷ s1 ∷ s2 ∷ s3 ∷ s4 ∷ []) a b c d e h = refl
+all-stored [] a b c d e h = absurd (omega arith)
+all-stored (s0 ∷ []) a b c d e h = absurd (omega arith)
+all-stored (s0 ∷ s1 ∷ []) a b c d e h = absurd (omega arith)
+all-stored (s0 ∷ s1 ∷ s2 ∷ []) a b c d e h = absurd (omega arith)
+all-stored (s0 ∷ s1 ∷ s2 ∷ s3 ∷ []) a b c d e h = absurd (omega arith)
+all-stored (s0 ∷ s1 ∷ s2 ∷ s3 ∷ s4 ∷ s5 ∷ s) a b c d e h = absurd (omega arith)
+
+-- ---- three counts as a tally
+
+module _ (good error dropped : ℕ) where
+  pub good-high : limit < good → OutOfRange ≡ countsOf good error dropped
+  unfolding countsOf
+  good-high g = simp (lt-ltb limit good g, pick-true)
+
+  pub error-high : good ≤ limit → limit < error → OutOfRange ≡ countsOf good error dropped
+  unfolding countsOf
+  error-high g e = simp (le-ltb limit good g, lt-ltb limit error e, pick-true, pick-false)
+
+  pub dropped-high : good ≤ limit → error ≤ limit → limit < dropped → OutOfRange ≡ countsOf good error dropped
+  unfolding countsOf
+  dropped-high g e d = simp (le-ltb limit good g, le-ltb limit error e, lt-ltb limit dropped d, pick-true, pick-false)
+
+  pub all-fit : good ≤ limit → error ≤ limit → dropped ≤ limit
+      → Fit record { good = good; error = error; dropped = dropped } ≡ countsOf good error dropped
+  unfolding countsOf
+  all-fit g e d = simp (le-ltb limit good g, le-ltb limit error e, le-ltb limit dropped d, pick-false)
+
+-- ---- the ends of a call
+
+module _ (input image output state : List ℕ) where
+  pub not-five : (length state ≡ 5 → ⊥) → leftBy 20 image output state ≡ called input image output state
+  unfolding called
+  not-five h = simp (ne-eqb (length state) 5 h, pick-true)
+
+  -- what a call on five numbers comes to, by what their counts are
+  counts-known : (counts told′ : Counts) → length state ≡ 5 → counts ≡ countsOf (getD state 1 0) (getD state 2 0) (getD state 3 0) → counts ≡ told′
+      → calledWith input image output state told′ ≡ called input image output state
+  unfolding called
+  counts-known counts told′ h e k = simp (eq-eqb (length state) 5 h, pick-false, sym e, k)
+
+  pub out-of-range : (counts : Counts) → length state ≡ 5 → counts ≡ countsOf (getD state 1 0) (getD state 2 0) (getD state 3 0) → counts ≡ OutOfRange
+      → leftBy 21 image output state ≡ called input image output state
+  unfolding calledWith
+  out-of-range counts h e k = counts-known counts OutOfRange h e k
+
+  pub carried-out : (counts : Counts) (tally : Tally) → length state ≡ 5 → counts ≡ countsOf (getD state 1 0) (getD state 2 0) (getD state 3 0)
+      → counts ≡ Fit tally → (r : Called) (image′ output′ : List ℕ) → left r image′ output′ ≡ step (call input) (stateOf image output (getD state 0 0) tally)
+      → (answer : ℕ) (state′ : List ℕ) → answer ≡ numberOf (r .outcome) → state′ ≡ packed (r .cursor) (r .tally) (r .length)
+      → leftBy answer image′ output′ state′ ≡ called input image output state
+  unfolding calledWith told
+  carried-out counts tally h e k r image′ output′ s answer state′ n p =
+      simp (n, p) (ap told s) ∙ counts-known counts (Fit tally) h e k

@@ -1,0 +1,56 @@
+-- The packed state: how five numbers are a cursor, a tally and a length, and one call on it.
+use Prim.Native.Nat.{ℕ}
+use mathlib.Core.Bool.{Bool, not, _||_}
+use mathlib.Core.List.{List, [], _∷_}
+use lib.Dec.{eqb, ltb}
+use lib.ListN.{length, getD}
+use Rattle.bench.specs.Machine.{stateOf}
+use Rattle.bench.specs.Counts.{limit}
+use Rattle.bench.specs.Machine.{Step, call, step, numberOf}
+use Rattle.bench.specs.declared.tally.Tally.{Tally}
+use Rattle.embed.specs.declared.Counts.{Counts}
+use Rattle.embed.specs.declared.Counts.the-variants.{Fit, OutOfRange}
+use Rattle.frame.specs.Bytes.{pick}
+
+-- a cursor, a tally and the length of the frame written, as five numbers
+abbrev pub packed : ℕ → Tally → ℕ → List ℕ
+packed cursor tally written = cursor ∷ tally .good ∷ tally .error ∷ tally .dropped ∷ written ∷ []
+
+-- three numbers as a tally, where each is one that a count can be
+unfoldable pub countsOf : ℕ → ℕ → ℕ → Counts
+countsOf good error dropped =
+    pick (ltb limit good) OutOfRange
+    (pick (ltb limit error) OutOfRange
+    (pick (ltb limit dropped) OutOfRange
+    (Fit record { good = good; error = error; dropped = dropped })))
+
+-- what a call leaves: the answer number, and the three lent slices
+pub record Left : Type 0 where
+  pub answer : ℕ
+  pub image : List ℕ
+  pub output : List ℕ
+  pub state : List ℕ
+
+abbrev pub leftBy : ℕ → List ℕ → List ℕ → List ℕ → Left
+leftBy answer image output state = record { answer = answer; image = image; output = output; state = state }
+
+-- the machine's step, packed
+unfoldable pub told : Step → Left
+told s =
+    record {
+      answer = numberOf (s .outcome);
+      image = s .next .image;
+      output = s .next .output;
+      state = packed (s .next .cursor) (s .next .tally) (s .length);
+    }
+
+-- counts that no tally can hold are refused with 21, and nothing changes; else the call is the machine's step
+unfoldable pub calledWith : List ℕ → List ℕ → List ℕ → List ℕ → Counts → Left
+calledWith input image output state OutOfRange = leftBy 21 image output state
+calledWith input image output state (Fit tally) = told (step (call input) (stateOf image output (getD state 0 0) tally))
+
+-- a state that does not have five numbers is refused with 20, and nothing changes
+unfoldable pub called : List ℕ → List ℕ → List ℕ → List ℕ → Left
+called input image output state =
+    pick (not (eqb (length state) 5)) (leftBy 20 image output state)
+    (calledWith input image output state (countsOf (getD state 1 0) (getD state 2 0) (getD state 3 0)))

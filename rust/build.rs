@@ -1,0 +1,19 @@
+//! Points the linker at the static library of the proved bench, `target/staticlib/libembed.a`
+//! of the repository. `rt staticlib embed` at the repository's top makes it.
+
+use std::env;
+use std::path::Path;
+use std::process::exit;
+
+fn main() {
+    let package = env::var("CARGO_MANIFEST_DIR").expect("cargo names the package's folder");
+    let folder = Path::new(&package).join("../target/staticlib");
+    let library = folder.join("libembed.a");
+    println!("cargo:rerun-if-changed={}", library.display());
+    if !library.exists() {
+        eprintln!("libembed.a is missing: run `rt staticlib embed` at the repository's top first");
+        exit(1);
+    }
+    println!("cargo:rustc-link-search=native={}", folder.display());
+    println!("cargo:rustc-link-lib=static=embed");
+}

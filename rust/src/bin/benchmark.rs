@@ -1,0 +1,255 @@
+//! Times the proved bench beside the independent model: the same inputs, in one run, turn by turn.
+//!
+//!     benchmark [ROUNDS]
+//!
+//! Each workload is run from a fresh image to the end of the input, at 4, 8, 16 and 32 KiB. Printed
+//! are the medians over the rounds, the ratio proved to model, and how time grows as the input
+//! doubles. The model's branch counters are compiled out here.
+
+use poldrisk::call_packed;
+use poldrisk::generator::{double, frame, offset_place, sample_image, set_double, Random};
+use poldrisk::model::Bench;
+use std::hint::black_box;
+use std::time::Instant;
+
+const SIZES: [usize; 4] = [4 * 1024, 8 * 1024, 16 * 1024, 32 * 1024];
+const GOAL_RATIO: f64 = 1.2;
+const GOAL_GROWTH: f64 = 2.2;
+
+/// A workload: its name, the image it starts from and an input of about so many bytes.
+struct Workload {
+    name: &'static str,
+    image: Vec<u8>,
+    input: fn(usize) -> Vec<u8>,
+    /// Whether every call but the last is to accept a command (else: to drop a byte).
+    accepts: bool,
+}
+
+/// The largest tag: 33 EPC words with L at 31, 32 TID words and 512 User words.
+fn large_image() -> Vec<u8> {
+    let mut image = vec![0; 24];
+    let words = [4, 33, 32, 512];
+    for (bank, count) in words.into_iter().enumerate() {
+        let offset = image.len();
+        set_double(&mut image, 4 + 4 * bank, count);
+        set_double(&mut image, offset_place(bank), offset);
+        image.resize(offset + 2 * count, bank as u8);
+    }
+    let total = image.len();
+    set_double(&mut image, 0, 1);
+    set_double(&mut image, 2, total);
+    let pc = double(&image, offset_place(1)) + 2;
+    image[pc] = 31 << 3;
+    image
+}
+
+/// Bytes without BB.
+fn noise(size: usize) -> Vec<u8> {
+    let mut random = Random::new(1);
+    (0..size)
+        .map(|_| match random.byte() {
+            0xBB => 0x41,
+            b => b,
+        })
+        .collect()
+}
+
+/// Whole rounds of frames, up to the size.
+fn repeated(round: &[Vec<u8>], size: usize) -> Vec<u8> {
+    let mut input = Vec::new();
+    for next in round.iter().cycle() {
+        if input.len() + next.len() > size {
+            return input;
+        }
+        input.extend(next);
+    }
+    input
+}
+
+const RIGHT: [u8; 4] = [0x00, 0x00, 0xFF, 0xFF];
+
+fn aimed(password: [u8; 4], bank: u8, pointer: u16, count: u16, data: &[u8]) -> Vec<u8> {
+    let mut parameters = password.to_vec();
+    parameters.push(bank);
+    parameters.extend(pointer.to_be_bytes());
+    parameters.extend(count.to_be_bytes());
+    parameters.extend(data);
+    parameters
+}
+
+/// All five commands on the sample tag. The Kill has a wrong password, so that the tag answers to
+/// the end.
+fn mix(size: usize) -> Vec<u8> {
+    let lock = [&RIGHT[..], &[0x02, 0x00, 0x80]].concat();
+    let round = [
+        frame(0x22, &[]),
+        frame(0x39, &aimed(RIGHT, 3, 0, 2, &[])),
+        frame(0x49, &aimed(RIGHT, 3, 4, 4, &[1, 2, 3, 4, 5, 6, 7, 8])),
+        frame(0x82, &lock),
+        frame(0x39, &aimed(RIGHT, 1, 0, 8, &[])),
+        frame(0x65, &[0, 0, 0, 1]),
+    ];
+    repeated(&round, size)
+}
+
+/// A false header every five bytes, with PL 80: each has a frame's whole length behind it, whose
+/// check is wrong.
+fn false_headers(size: usize) -> Vec<u8> {
+    let mut input: Vec<u8> = [0xBB, 0x00, 0x11, 0x00, 0x50]
+        .into_iter()
+        .cycle()
+        .take(size)
+        .collect();
+    // the last bytes are noise, so that no false header waits there for more
+    let noise_from = size.saturating_sub(87);
+    input[noise_from..].fill(0x41);
+    input
+}
+
+/// Reads and Writes of 32 words.
+fn longest(size: usize) -> Vec<u8> {
+    let open = [0; 4];
+    let round = [
+        frame(0x39, &aimed(open, 3, 480, 32, &[])),
+        frame(0x49, &aimed(open, 3, 480, 32, &[0x5A; 64])),
+    ];
+    repeated(&round, size)
+}
+
+fn run_proved(image: &[u8], input: &[u8]) -> (f64, [u64; 5]) {
+    let mut image = image.to_vec();
+    let mut output = vec![0; 136];
+    let mut state = [0; 5];
+    let started = Instant::now();
+    loop {
+        let number = call_packed(black_box(input), &mut image, &mut output, &mut state);
+        if number != 0 && number != 3 {
+            break;
+        }
+    }
+    let time = started.elapsed().as_secs_f64();
+    black_box((&image, &output));
+    (time, state)
+}
+
+fn run_model(image: &[u8], input: &[u8]) -> (f64, [u64; 5]) {
+    let mut bench = Bench {
+        image: image.to_vec(),
+        output: vec![0; 136],
+        cursor: 0,
+        good: 0,
+        error: 0,
+        dropped: 0,
+        length: 0,
+    };
+    let started = Instant::now();
+    loop {
+        let number = bench.call(black_box(input));
+        if number != 0 && number != 3 {
+            break;
+        }
+    }
+    let time = started.elapsed().as_secs_f64();
+    let state = [
+        bench.cursor,
+        bench.good,
+        bench.error,
+        bench.dropped,
+        bench.length,
+    ];
+    black_box(&bench);
+    (time, state)
+}
+
+fn median(times: &mut [f64]) -> f64 {
+    times.sort_by(f64::total_cmp);
+    times[times.len() / 2]
+}
+
+/// One turn of both on an input, in microseconds: the proved bench, then the model.
+fn turn(workload: &Workload, input: &[u8]) -> (f64, f64) {
+    let (proved, state) = run_proved(&workload.image, input);
+    let (model, same) = run_model(&workload.image, input);
+    // a workload that does something else than its name says would be timed for nothing
+    assert_eq!(state, same);
+    assert_eq!(state[0], input.len() as u64);
+    assert_eq!(state[3] == 0, workload.accepts);
+    assert_eq!(state[1] + state[2] > 0, workload.accepts);
+    (proved * 1e6, model * 1e6)
+}
+
+/// The medians of both at each size. A round has a turn at every size, so that a slow spell of the
+/// machine falls on all of them alike.
+fn measure(workload: &Workload, rounds: usize) -> [(f64, f64); SIZES.len()] {
+    let inputs = SIZES.map(workload.input);
+    let mut proved = SIZES.map(|_| Vec::new());
+    let mut model = SIZES.map(|_| Vec::new());
+    for _ in 0..rounds {
+        for (i, input) in inputs.iter().enumerate() {
+            let times = turn(workload, input);
+            proved[i].push(times.0);
+            model[i].push(times.1);
+        }
+    }
+    std::array::from_fn(|i| (median(&mut proved[i]), median(&mut model[i])))
+}
+
+fn report(workload: &Workload, rounds: usize) -> bool {
+    println!("{}", workload.name);
+    println!("   bytes   proved us    model us   ratio   growth of proved, of model");
+    let medians = measure(workload, rounds);
+    let mut met = true;
+    for (i, (proved, model)) in medians.into_iter().enumerate() {
+        let ratio = proved / model;
+        met &= ratio <= GOAL_RATIO;
+        print!("{:8} {proved:11.1} {model:11.1} {ratio:7.2}", SIZES[i]);
+        if i > 0 {
+            let before = medians[i - 1];
+            let growth = proved / before.0;
+            met &= growth <= GOAL_GROWTH;
+            print!("   {growth:.2}, {:.2}", model / before.1);
+        }
+        println!();
+    }
+    met
+}
+
+fn main() {
+    let rounds = std::env::args()
+        .nth(1)
+        .map_or(101, |a| a.parse().expect("ROUNDS is a number"));
+    let workloads = [
+        Workload {
+            name: "noise without BB",
+            image: sample_image(),
+            input: noise,
+            accepts: false,
+        },
+        Workload {
+            name: "all five commands",
+            image: sample_image(),
+            input: mix,
+            accepts: true,
+        },
+        Workload {
+            name: "false headers, each with a whole wrong frame behind it",
+            image: sample_image(),
+            input: false_headers,
+            accepts: false,
+        },
+        Workload {
+            name: "longest Reads and Writes",
+            image: large_image(),
+            input: longest,
+            accepts: true,
+        },
+    ];
+    let mut met = true;
+    for workload in &workloads {
+        met &= report(workload, rounds);
+    }
+    println!(
+        "goal, at most {GOAL_RATIO} times the model and {GOAL_GROWTH} times for double the input: {}",
+        if met { "met" } else { "MISSED" }
+    );
+}

@@ -1,0 +1,211 @@
+//! Feeds the same random calls to the proved bench and to the independent model, and compares
+//! number, length, whole image, whole output, cursor and counts after each call.
+//!
+//!     compare [CALLS] [SEED] [SESSION]
+//!
+//! A session is one image with its row of calls, drawn from the seed and the session's number
+//! alone, so that a difference is replayed by naming both. A run in which some branch of the model
+//! was never taken counts as failed: it would have compared less than it says.
+
+use poldrisk::generator::{self, Random};
+use poldrisk::model::{self, Bench};
+use poldrisk::{call_packed, COUNT_OUT_OF_RANGE, STATE_LENGTH_WRONG};
+use std::process::exit;
+use std::time::{SystemTime, UNIX_EPOCH};
+
+const LIMIT: u64 = 4_294_967_295;
+
+/// What the proved bench holds: the slices of its C interface.
+#[derive(Clone)]
+struct Proved {
+    image: Vec<u8>,
+    output: Vec<u8>,
+    state: Vec<u64>,
+}
+
+impl Proved {
+    fn of(bench: &Bench) -> Proved {
+        Proved {
+            image: bench.image.clone(),
+            output: bench.output.clone(),
+            state: vec![
+                bench.cursor,
+                bench.good,
+                bench.error,
+                bench.dropped,
+                bench.length,
+            ],
+        }
+    }
+
+    fn call(&mut self, input: &[u8]) -> u64 {
+        call_packed(input, &mut self.image, &mut self.output, &mut self.state)
+    }
+
+    fn is(&self, bench: &Bench) -> bool {
+        self.image == bench.image
+            && self.output == bench.output
+            && self.state
+                == [
+                    bench.cursor,
+                    bench.good,
+                    bench.error,
+                    bench.dropped,
+                    bench.length,
+                ]
+    }
+}
+
+/// The model behind the two refusals of the C interface.
+fn model_call(bench: &mut Bench, input: &[u8]) -> u64 {
+    if bench.good > LIMIT || bench.error > LIMIT || bench.dropped > LIMIT {
+        return COUNT_OUT_OF_RANGE;
+    }
+    bench.call(input)
+}
+
+/// A start: mostly one that lets calls through, else with one thing at a bound.
+fn start(random: &mut Random) -> Bench {
+    let mut image = generator::good_image(random);
+    if random.percent(20) {
+        generator::poke_image(random, &mut image);
+    } else if random.percent(5) {
+        image = generator::image_of_odd_words(random);
+    }
+    let room = random.pick(&[136, 136, 136, 136, 136, 137, 300]);
+    let room = if random.percent(4) {
+        random.pick(&[0, 1, 23, 135])
+    } else {
+        room
+    };
+    let mut counts = [0; 3].map(|_: u64| random.next() % 1000);
+    if random.percent(10) {
+        let near_full = [LIMIT - 2, LIMIT - 1, LIMIT, LIMIT + 1, u64::MAX];
+        counts[random.below(3)] = random.pick(&near_full);
+    }
+    Bench {
+        image,
+        output: random.bytes(room),
+        cursor: 0,
+        good: counts[0],
+        error: counts[1],
+        dropped: counts[2],
+        length: random.next(),
+    }
+}
+
+fn start_cursor(random: &mut Random, input: &[u8]) -> u64 {
+    let n = input.len() as u64;
+    match random.below(20) {
+        0 => n,
+        1 => random.pick(&[n + 1, n + 2, u64::MAX, u64::MAX - 1, 1 << 32, 1 << 63]),
+        2 => random.next() % (n + 1),
+        _ => 0,
+    }
+}
+
+fn report(seed: u64, session: u64, call: u64, input: &[u8], numbers: (u64, u64)) -> ! {
+    println!("DIFFERENT at call {call} of session {session}, seed {seed}");
+    println!(
+        "answer of the proved bench {}, of the model {}",
+        numbers.0, numbers.1
+    );
+    println!("input {input:02X?}");
+    println!("replay: compare 1 {seed} {session}");
+    exit(1)
+}
+
+/// One session: several inputs on one image. Gives the number of calls made.
+fn session(seed: u64, number: u64, answers: &mut [u64; 22]) -> u64 {
+    let mut random = Random::new(seed ^ number.wrapping_mul(0xD129_0C6B_4A1E_35F7));
+    let mut bench = start(&mut random);
+    let mut proved = Proved::of(&bench);
+    let mut calls = 0;
+    for _ in 0..random.between(1, 12) {
+        let input = generator::input(&mut random, &bench.image);
+        bench.cursor = start_cursor(&mut random, &input);
+        proved.state[0] = bench.cursor;
+        // every input is walked to its end, and one call beyond
+        for _ in 0..input.len() + 2 {
+            let got = proved.call(&input);
+            let expected = model_call(&mut bench, &input);
+            calls += 1;
+            if got != expected || !proved.is(&bench) {
+                report(seed, number, calls, &input, (got, expected));
+            }
+            answers[got as usize] += 1;
+            if got != 0 && got != 3 {
+                break;
+            }
+        }
+        if random.percent(10) {
+            wrong_state_length(&mut random, &proved, &input);
+        }
+        // a killed tag is brought back now and then, so that later calls see more than its state
+        if bench.image.len() >= 24 && bench.image[22] == 1 && random.percent(60) {
+            bench.image[22] = 0;
+            proved.image[22] = 0;
+        }
+    }
+    calls
+}
+
+/// A state that does not have five numbers is refused, and nothing changes.
+fn wrong_state_length(random: &mut Random, proved: &Proved, input: &[u8]) {
+    let mut other = proved.clone();
+    other.state.resize(random.pick(&[0, 1, 4, 6, 9]), 7);
+    let before = other.clone();
+    let got = other.call(input);
+    let same =
+        other.image == before.image && other.output == before.output && other.state == before.state;
+    if got != STATE_LENGTH_WRONG || !same {
+        println!("DIFFERENT: a state of {} numbers", before.state.len());
+        exit(1);
+    }
+}
+
+fn main() {
+    let arguments: Vec<u64> = std::env::args()
+        .skip(1)
+        .map(|a| a.parse().expect("CALLS, SEED and SESSION are numbers"))
+        .collect();
+    let wanted = arguments.first().copied().unwrap_or(300_000);
+    let seed = arguments.get(1).copied().unwrap_or_else(|| {
+        let now = SystemTime::now().duration_since(UNIX_EPOCH);
+        now.map_or(1, |t| t.as_nanos() as u64 % 1_000_000_000_000)
+    });
+    let mut answers = [0; 22];
+    if let Some(only) = arguments.get(2) {
+        let calls = session(seed, *only, &mut answers);
+        println!("session {only} of seed {seed}: {calls} calls, no difference");
+        return;
+    }
+    println!("comparing {wanted} calls, seed {seed}");
+    let mut calls = 0;
+    let mut sessions = 0;
+    while calls < wanted {
+        calls += session(seed, sessions, &mut answers);
+        sessions += 1;
+    }
+    finish(seed, sessions, calls, &answers);
+}
+
+fn finish(seed: u64, sessions: u64, calls: u64, answers: &[u64; 22]) {
+    println!("{calls} calls in {sessions} sessions, seed {seed}: no difference");
+    for (number, count) in answers.iter().enumerate().filter(|(_, c)| **c > 0) {
+        println!("  answer {number:2}: {count}");
+    }
+    let counts = model::branch_counts();
+    let named = || model::BRANCHES.iter().zip(&counts);
+    if let Some((name, least)) = named().min_by_key(|(_, c)| **c) {
+        println!(
+            "{} branches of the model; least often {name}: {least}",
+            counts.len()
+        );
+    }
+    let never: Vec<_> = named().filter(|(_, c)| **c == 0).map(|(n, _)| n).collect();
+    if !never.is_empty() {
+        println!("NEVER REACHED: {never:?}");
+        exit(1);
+    }
+}

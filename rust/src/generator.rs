@@ -1,0 +1,444 @@
+//! Images, commands and inputs for the tests, drawn from a seed. Values are drawn near the bounds
+//! of the rules, on both sides, since that is where two readings of a rule part.
+
+/// A xorshift generator: the same seed gives the same run.
+pub struct Random(u64);
+
+impl Random {
+    pub fn new(seed: u64) -> Random {
+        // one round of splitmix, so that neighbouring seeds start far apart and none starts at 0
+        let mut z = seed.wrapping_add(0x9E37_79B9_7F4A_7C15);
+        z = (z ^ (z >> 30)).wrapping_mul(0xBF58_476D_1CE4_E5B9);
+        z = (z ^ (z >> 27)).wrapping_mul(0x94D0_49BB_1331_11EB);
+        Random((z ^ (z >> 31)) | 1)
+    }
+
+    pub fn next(&mut self) -> u64 {
+        self.0 ^= self.0 << 13;
+        self.0 ^= self.0 >> 7;
+        self.0 ^= self.0 << 17;
+        self.0.wrapping_mul(0x2545_F491_4F6C_DD1D) >> 11
+    }
+
+    /// A number below `n`.
+    pub fn below(&mut self, n: usize) -> usize {
+        (self.next() % n as u64) as usize
+    }
+
+    pub fn between(&mut self, low: usize, high: usize) -> usize {
+        low + self.below(high - low + 1)
+    }
+
+    /// True `n` times in a hundred.
+    pub fn percent(&mut self, n: usize) -> bool {
+        self.below(100) < n
+    }
+
+    pub fn byte(&mut self) -> u8 {
+        self.next() as u8
+    }
+
+    pub fn pick<T: Copy>(&mut self, of: &[T]) -> T {
+        of[self.below(of.len())]
+    }
+
+    pub fn bytes(&mut self, n: usize) -> Vec<u8> {
+        (0..n).map(|_| self.byte()).collect()
+    }
+
+    /// `x` or a neighbour of it.
+    pub fn near(&mut self, x: usize) -> usize {
+        (x + self.below(3)).saturating_sub(1)
+    }
+}
+
+/// Where the header has a bank's words and its offset.
+pub fn words_place(bank: usize) -> usize {
+    4 + 4 * bank
+}
+
+pub fn offset_place(bank: usize) -> usize {
+    6 + 4 * bank
+}
+
+pub fn double(bytes: &[u8], at: usize) -> usize {
+    usize::from(bytes[at]) * 256 + usize::from(bytes[at + 1])
+}
+
+pub fn set_double(bytes: &mut [u8], at: usize, value: usize) {
+    bytes[at] = (value >> 8) as u8;
+    bytes[at + 1] = value as u8;
+}
+
+/// The password at `at` (0 kill, 4 access) of the Reserved bank, if the image is long enough.
+pub fn password(image: &[u8], at: usize) -> Option<[u8; 4]> {
+    let header = image.get(..24)?;
+    let start = double(header, offset_place(0)) + at;
+    image.get(start..start + 4)?.try_into().ok()
+}
+
+/// The scope document's sample tag.
+pub fn sample_image() -> Vec<u8> {
+    let words: [u16; 12] = [1, 86, 4, 24, 8, 32, 3, 48, 16, 54, 0, 0x00C9];
+    let epc: [u16; 8] = [
+        0x0000, 0x3400, 0x3075, 0x1FEB, 0x705C, 0x5904, 0xE3D5, 0x0D70,
+    ];
+    let mut image: Vec<u8> = words.iter().flat_map(|w| w.to_be_bytes()).collect();
+    image.extend([0x00, 0x00, 0xFF, 0xFF, 0x00, 0x00, 0xFF, 0xFF]);
+    image.extend(epc.iter().flat_map(|w| w.to_be_bytes()));
+    image.extend([0; 6]);
+    image.extend([0x12, 0x34, 0x56, 0x78]);
+    image.resize(86, 0);
+    image
+}
+
+/// A good image of random layout, with gaps between the banks and behind the last.
+pub fn good_image(random: &mut Random) -> Vec<u8> {
+    let epc = pick_or_between(random, &[2, 3, 8, 33], 2, 33);
+    let tid = pick_or_between(random, &[1, 2, 32], 1, 32);
+    let user = pick_or_between(random, &[0, 1, 16, 32, 33, 512], 0, 64);
+    laid_out(random, [4, epc, tid, user])
+}
+
+/// An image of which only one bank's count of words is at its bound or beyond it: the layout fits.
+pub fn image_of_odd_words(random: &mut Random) -> Vec<u8> {
+    let mut words = [4, 8, 3, 16];
+    let bank = random.below(4);
+    words[bank] = match bank {
+        0 => random.pick(&[3, 5]),
+        1 => random.pick(&[1, 2, 33, 34]),
+        2 => random.pick(&[0, 1, 32, 33]),
+        _ => random.pick(&[0, 512, 513]),
+    };
+    laid_out(random, words)
+}
+
+fn laid_out(random: &mut Random, words: [usize; 4]) -> Vec<u8> {
+    let mut header = [0u8; 24];
+    let mut end = 24;
+    for (bank, count) in words.into_iter().enumerate() {
+        let offset = end + gap(random);
+        set_double(&mut header, words_place(bank), count);
+        set_double(&mut header, offset_place(bank), offset);
+        end = offset + 2 * count;
+    }
+    let total = if random.percent(5) {
+        2048
+    } else {
+        end + gap(random)
+    };
+    set_double(&mut header, 0, 1);
+    set_double(&mut header, 2, total);
+    set_double(&mut header, 20, lock_bits(random));
+    header[22] = random.pick(&[0, 0, 0, 0, 0, 0, 0, 0, 1, 2]);
+    header[23] = random.byte();
+    let mut image = random.bytes(total);
+    image[..24].copy_from_slice(&header);
+    set_passwords(random, &mut image);
+    let most = words[1].saturating_sub(2).min(31);
+    let length = if random.percent(30) {
+        most
+    } else {
+        random.below(most + 1)
+    };
+    set_epc_length(&mut image, length);
+    image
+}
+
+fn pick_or_between(random: &mut Random, of: &[usize], low: usize, high: usize) -> usize {
+    if random.percent(40) {
+        random.pick(of)
+    } else {
+        random.between(low, high)
+    }
+}
+
+fn gap(random: &mut Random) -> usize {
+    random.pick(&[0, 0, 0, 1, 2, 7])
+}
+
+/// Ten lock bits: all free, all of one kind, or any.
+fn lock_bits(random: &mut Random) -> usize {
+    match random.below(4) {
+        0 => 0,
+        1 => 0x155 * random.below(4),
+        _ => random.below(1024),
+    }
+}
+
+fn set_passwords(random: &mut Random, image: &mut [u8]) {
+    let start = double(image, offset_place(0));
+    for at in [start, start + 4] {
+        match random.below(4) {
+            0 => image[at..at + 4].fill(0),
+            // a single byte is not zero, so that a comparison of fewer bytes is seen
+            1 => {
+                image[at..at + 4].fill(0);
+                image[at + random.below(4)] = 1;
+            }
+            _ => {}
+        }
+    }
+}
+
+fn set_epc_length(image: &mut [u8], length: usize) {
+    let pc = double(image, offset_place(1)) + 2;
+    image[pc] = (length as u8) << 3 | image[pc] & 7;
+}
+
+/// Moves one rule of a good image to its bound or one beside it.
+pub fn poke_image(random: &mut Random, image: &mut Vec<u8>) {
+    if image.len() < 24 {
+        return;
+    }
+    match random.below(12) {
+        0 => image.truncate(random.below(25)),
+        1 => set_double(image, 0, random.pick(&[0, 1, 2, 257])),
+        2 => {
+            let total = random.near(image.len());
+            set_double(image, 2, total);
+        }
+        3 => {
+            let length = random.pick(&[2047, 2048, 2049]);
+            image.resize(length, 0);
+            set_double(image, 2, length);
+        }
+        4 => poke_words(random, image),
+        5..=7 => poke_offset(random, image),
+        8 => image[20] = random.pick(&[3, 4, 8, 128]),
+        9 => image[22] = random.pick(&[0, 1, 2, 3, 255]),
+        10 => poke_epc_length(random, image),
+        _ => {
+            let length = random.near(image.len());
+            image.resize(length, 0);
+        }
+    }
+}
+
+fn poke_words(random: &mut Random, image: &mut [u8]) {
+    let bank = random.below(4);
+    let bounds: &[usize] = match bank {
+        0 => &[3, 4, 5, 260],
+        1 => &[0, 1, 2, 33, 34, 65535],
+        2 => &[0, 1, 32, 33, 65535],
+        _ => &[0, 511, 512, 513, 65535],
+    };
+    set_double(image, words_place(bank), random.pick(bounds));
+}
+
+fn poke_offset(random: &mut Random, image: &mut Vec<u8>) {
+    // bank 4 is the end of the image
+    let bank = random.below(5);
+    let end_before = match bank {
+        0 => 24,
+        _ => double(image, offset_place(bank - 1)) + 2 * double(image, words_place(bank - 1)),
+    };
+    let place = random.near(end_before);
+    if bank < 4 {
+        let place = if random.percent(10) { 65535 } else { place };
+        set_double(image, offset_place(bank), place);
+    } else if (24..=2048).contains(&place) {
+        image.resize(place, 0);
+        set_double(image, 2, place);
+    }
+}
+
+fn poke_epc_length(random: &mut Random, image: &mut [u8]) {
+    let most = double(image, words_place(1)).saturating_sub(2);
+    let pc = double(image, offset_place(1)) + 2;
+    let length = random.near(most).min(31);
+    if pc < image.len() {
+        image[pc] = (length as u8) << 3 | image[pc] & 7;
+    }
+}
+
+/// A whole frame with the right check.
+pub fn frame(code: u8, parameters: &[u8]) -> Vec<u8> {
+    let n = parameters.len();
+    let mut bytes = vec![0xBB, 0x00, code, (n >> 8) as u8, n as u8];
+    bytes.extend(parameters);
+    let sum = bytes[1..].iter().fold(0u8, |s, b| s.wrapping_add(*b));
+    bytes.extend([sum, 0x7E]);
+    bytes
+}
+
+/// The passwords that commands carry besides the stored ones.
+fn some_password(random: &mut Random, image: &[u8], stored: usize) -> [u8; 4] {
+    let right = password(image, stored).unwrap_or([0; 4]);
+    match random.below(10) {
+        0..=4 => right,
+        5 | 6 => [0; 4],
+        7 => password(image, 4 - stored).unwrap_or([1; 4]),
+        8 => {
+            // one bit off
+            let mut wrong = right;
+            wrong[random.below(4)] ^= 1 << random.below(8);
+            wrong
+        }
+        _ => (random.next() as u32).to_be_bytes(),
+    }
+}
+
+/// Password, bank, pointer and count of a Read or a Write, near the bounds of the bank.
+fn aim(random: &mut Random, image: &[u8]) -> (Vec<u8>, usize, usize, usize) {
+    let mut parameters = some_password(random, image, 4).to_vec();
+    let bank = match random.below(20) {
+        0 => 4,
+        1 => 255,
+        n => n % 4,
+    };
+    let words = match image.get(..24) {
+        Some(header) if bank < 4 => double(header, words_place(bank)),
+        _ => 4,
+    };
+    let count = match random.below(10) {
+        0 => random.pick(&[0, 1, 2, 31, 32, 33, 34, 35]),
+        1 => words.clamp(1, 32),
+        2 => random.pick(&[256, 257, 65535]),
+        _ => random.between(1, words.clamp(1, 32)),
+    };
+    let pointer = match random.below(10) {
+        0 => 65535,
+        1 => random.below(65536),
+        2..=4 => random.near(words.saturating_sub(count)),
+        5 => random.below(4),
+        _ => random.below(words.saturating_sub(count) + 1),
+    };
+    parameters.push(bank as u8);
+    parameters.extend((pointer as u16).to_be_bytes());
+    parameters.extend((count as u16).to_be_bytes());
+    (parameters, bank, pointer, count)
+}
+
+fn write_parameters(random: &mut Random, image: &[u8]) -> Vec<u8> {
+    let (mut parameters, bank, pointer, count) = aim(random, image);
+    let mut data = random.bytes((2 * count).min(71));
+    if bank == 1 && pointer <= 1 && image.len() >= 24 {
+        // the new L at its bound or beside it
+        let most = double(image, words_place(1)).saturating_sub(2);
+        let place = 2 * (1 - pointer);
+        if place < data.len() && random.percent(80) {
+            data[place] = (random.near(most).min(31) as u8) << 3 | data[place] & 7;
+        }
+    }
+    parameters.extend(data);
+    parameters
+}
+
+fn lock_parameters(random: &mut Random, image: &[u8]) -> Vec<u8> {
+    let mut parameters = some_password(random, image, 4).to_vec();
+    let old = match image.get(..24) {
+        Some(header) => double(header, 20),
+        None => 0,
+    };
+    let mask = match random.below(5) {
+        0 => 0x3FF,
+        1 => 3 << (2 * random.below(5)),
+        2 => 1 << random.below(10),
+        3 => 0x3FC,
+        _ => random.below(1024),
+    };
+    let action = match random.below(4) {
+        0 => old & 0x3FF,
+        1 => (old & 0x3FF) ^ (1 << random.below(10)),
+        _ => random.below(1024),
+    };
+    let mut ld = mask << 10 | action;
+    if random.percent(5) {
+        ld |= 1 << random.between(20, 23);
+    }
+    parameters.extend(&(ld as u32).to_be_bytes()[1..]);
+    parameters
+}
+
+/// A command's code and parameters, well made or of a wrong length.
+pub fn command(random: &mut Random, image: &[u8]) -> (u8, Vec<u8>) {
+    let (code, mut parameters) = match random.below(24) {
+        0..=3 => (0x22, Vec::new()),
+        4..=9 => (0x39, aim(random, image).0),
+        10..=15 => (0x49, write_parameters(random, image)),
+        16..=20 => (0x82, lock_parameters(random, image)),
+        21 | 22 => (0x65, some_password(random, image, 0).to_vec()),
+        _ => {
+            let n = random.pick(&[0, 1, 4, 9, 80]);
+            let code = random.pick(&[0x00, 0x21, 0x23, 0x77, 0xBB, 0xFF, 0x38, 0x83]);
+            (code, random.bytes(n))
+        }
+    };
+    if random.percent(8) {
+        let n = parameters.len();
+        let length = random.pick(&[0, 3, 4, 8, 80, n + 1, n + 2, n.saturating_sub(1)]);
+        parameters.resize(length, 0);
+    }
+    parameters.truncate(80);
+    (code, parameters)
+}
+
+/// A frame with one thing wrong.
+fn damaged(random: &mut Random, mut bytes: Vec<u8>) -> Vec<u8> {
+    let n = bytes.len();
+    match random.below(8) {
+        0 => bytes[n - 2] = bytes[n - 2].wrapping_add(random.pick(&[1, 255])),
+        1 => bytes[n - 1] = random.pick(&[0x7D, 0x7F, 0x00, 0xBB]),
+        2 => bytes[1] = random.pick(&[1, 2, 255]),
+        3 => bytes.truncate(random.below(n)),
+        4 => {
+            let at = random.below(n);
+            bytes[at] = random.byte();
+        }
+        // PL 80 and 81, with a right check, and PL of 256 and more
+        5 => {
+            let length = random.pick(&[80, 81]);
+            let parameters = random.bytes(length);
+            bytes = frame(bytes[2], &parameters);
+        }
+        6 => bytes[3] = random.pick(&[1, 2, 255]),
+        // a real frame whose first bytes look like another one's start
+        _ => {
+            let code = random.byte();
+            let pl = random.pick(&[0, 5, 40, 80, 81]);
+            let mut all = vec![0xBB, 0x00, code, 0x00, pl];
+            all.truncate(random.between(1, 5));
+            all.extend(bytes);
+            bytes = all;
+        }
+    }
+    bytes
+}
+
+/// Input bytes: frames, damaged frames and noise, and now and then a cut at the end.
+pub fn input(random: &mut Random, image: &[u8]) -> Vec<u8> {
+    let mut bytes = Vec::new();
+    for _ in 0..random.between(1, 5) {
+        match random.below(10) {
+            0 => {
+                let n = random.below(12);
+                bytes.extend(random.bytes(n));
+            }
+            1 => bytes.extend(noise(random)),
+            2 => {
+                let (code, parameters) = command(random, image);
+                bytes.extend(damaged(random, frame(code, &parameters)));
+            }
+            _ => {
+                let (code, parameters) = command(random, image);
+                bytes.extend(frame(code, &parameters));
+            }
+        }
+    }
+    if random.percent(15) {
+        let (code, parameters) = command(random, image);
+        let mut last = frame(code, &parameters);
+        last.truncate(random.below(last.len()));
+        bytes.extend(last);
+    }
+    bytes
+}
+
+/// Bytes that the finding rules look at: headers, types and short lengths in any order.
+fn noise(random: &mut Random) -> Vec<u8> {
+    let n = random.between(1, 30);
+    (0..n)
+        .map(|_| random.pick(&[0xBB, 0xBB, 0x00, 0x00, 0x01, 0x05, 0x50, 0x51, 0x7E, 0x22]))
+        .collect()
+}
