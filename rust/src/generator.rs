@@ -13,7 +13,7 @@ impl Random {
         Random((z ^ (z >> 31)) | 1)
     }
 
-    pub fn next(&mut self) -> u64 {
+    pub fn number(&mut self) -> u64 {
         self.0 ^= self.0 << 13;
         self.0 ^= self.0 >> 7;
         self.0 ^= self.0 << 17;
@@ -22,7 +22,7 @@ impl Random {
 
     /// A number below `n`.
     pub fn below(&mut self, n: usize) -> usize {
-        (self.next() % n as u64) as usize
+        (self.number() % n as u64) as usize
     }
 
     pub fn between(&mut self, low: usize, high: usize) -> usize {
@@ -35,7 +35,7 @@ impl Random {
     }
 
     pub fn byte(&mut self) -> u8 {
-        self.next() as u8
+        self.number() as u8
     }
 
     pub fn pick<T: Copy>(&mut self, of: &[T]) -> T {
@@ -275,7 +275,7 @@ fn some_password(random: &mut Random, image: &[u8], stored: usize) -> [u8; 4] {
             wrong[random.below(4)] ^= 1 << random.below(8);
             wrong
         }
-        _ => (random.next() as u32).to_be_bytes(),
+        _ => (random.number() as u32).to_be_bytes(),
     }
 }
 

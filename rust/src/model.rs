@@ -29,21 +29,23 @@ branches! {
     // lock pairs and passwords
     PAIR_FREE PAIR_PERMANENTLY_FREE PAIR_SECURED_YES PAIR_SECURED_NO PAIR_NEVER
     SECURED_BOTH_ZERO SECURED_EQUAL OPEN_ZERO_GIVEN WRONG_STORED_ZERO WRONG_STORED_NONZERO
-    // codes
-    CODE_UNKNOWN
+    REGION_KILL_TOUCHED REGION_KILL_UNTOUCHED REGION_ACCESS_TOUCHED REGION_ACCESS_UNTOUCHED
+    // codes and counts
+    CODE_UNKNOWN COUNTED_ERROR COUNTED_GOOD
     // inventory
-    INVENTORY_PL INVENTORY_STATE INVENTORY_GOOD
+    INVENTORY_PL INVENTORY_STATE INVENTORY_GOOD CRC_BIT_1 CRC_BIT_0
     // Read
     READ_PL READ_BANK READ_COUNT_0 READ_COUNT_33 READ_STATE READ_PASSWORD READ_RANGE
     READ_KILL_LOCKED READ_ACCESS_LOCKED READ_RESERVED READ_EPC READ_TID READ_USER
     // Write
     WRITE_PL_BELOW_9 WRITE_PL_NOT_COUNT WRITE_BANK WRITE_COUNT_0 WRITE_COUNT_33 WRITE_STATE
     WRITE_PASSWORD WRITE_RANGE WRITE_KILL_LOCKED WRITE_ACCESS_LOCKED WRITE_EPC_LOCKED
-    WRITE_TID_LOCKED WRITE_USER_LOCKED WRITE_NEW_LENGTH_HIGH WRITE_NEW_LENGTH_FITS
+    WRITE_TID_LOCKED WRITE_USER_LOCKED WRITE_NEW_LENGTH_HIGH WRITE_NEW_LENGTH_FITS WRITE_NO_PC
     WRITE_RESERVED WRITE_EPC WRITE_TID WRITE_USER
     // Lock
     LOCK_PL LOCK_TOP_BITS LOCK_STATE LOCK_PASSWORD LOCK_NOT_SECURED LOCK_NO_USER
-    LOCK_PERMALOCK_CHANGE LOCK_PERMALOCK_SAME LOCK_GOOD
+    LOCK_USER_THERE LOCK_USER_NOT_MASKED LOCK_PERMALOCK_CHANGE LOCK_PERMALOCK_SAME
+    LOCK_NO_PERMALOCK LOCK_GOOD
     // Kill
     KILL_PL KILL_STATE KILL_STORED_ZERO KILL_DIFFERENT KILL_GOOD
 }
@@ -173,8 +175,10 @@ impl Bench {
         self.length = length as u64;
         // "An error answer is one with code FF."
         if answer.code == 0xFF {
+            hit!(COUNTED_ERROR);
             self.error += 1;
         } else {
+            hit!(COUNTED_GOOD);
             self.good += 1;
         }
     }
@@ -496,8 +500,10 @@ fn crc16(bytes: &[u8]) -> u16 {
         crc ^= u16::from(*b) << 8;
         for _ in 0..8 {
             if crc & 0x8000 != 0 {
+                hit!(CRC_BIT_1);
                 crc = (crc << 1) ^ 0x1021;
             } else {
+                hit!(CRC_BIT_0);
                 crc <<= 1;
             }
         }
@@ -574,11 +580,21 @@ fn allows(image: &[u8], shift: usize, secured: bool) -> bool {
 }
 
 fn touches_kill(pointer: usize) -> bool {
-    pointer < 2
+    if pointer < 2 {
+        hit!(REGION_KILL_TOUCHED);
+        return true;
+    }
+    hit!(REGION_KILL_UNTOUCHED);
+    false
 }
 
 fn touches_access(pointer: usize, count: usize) -> bool {
-    pointer + count > 2
+    if pointer + count > 2 {
+        hit!(REGION_ACCESS_TOUCHED);
+        return true;
+    }
+    hit!(REGION_ACCESS_UNTOUCHED);
+    false
 }
 
 /// "password (4), bank (1), pointer (2), count (2). PL not 9, bank above 3, count not 1 to 32:
@@ -692,6 +708,8 @@ fn write(image: &mut [u8], parameters: &[u8]) -> Answer {
             return tag_error(0xB3, image);
         }
         hit!(WRITE_NEW_LENGTH_FITS);
+    } else {
+        hit!(WRITE_NO_PC);
     }
     match bank {
         RESERVED => hit!(WRITE_RESERVED),
@@ -771,9 +789,14 @@ fn lock(image: &mut [u8], parameters: &[u8]) -> Answer {
     let mask = ld >> 10;
     let action = ld & 0x3FF;
     // "Mask touches User and User has 0 words: C3."
-    if mask >> USER_PAIR & 3 != 0 && words_of(image, USER) == 0 {
-        hit!(LOCK_NO_USER);
-        return tag_error(0xC3, image);
+    if mask >> USER_PAIR & 3 != 0 {
+        if words_of(image, USER) == 0 {
+            hit!(LOCK_NO_USER);
+            return tag_error(0xC3, image);
+        }
+        hit!(LOCK_USER_THERE);
+    } else {
+        hit!(LOCK_USER_NOT_MASKED);
     }
     // "A new pair takes masked bits from the action, others from the old pair."
     let old = double(image, 20);
@@ -788,6 +811,8 @@ fn lock(image: &mut [u8], parameters: &[u8]) -> Answer {
                 return tag_error(0xC4, image);
             }
             hit!(LOCK_PERMALOCK_SAME);
+        } else {
+            hit!(LOCK_NO_PERMALOCK);
         }
     }
     // "Else all pairs are stored; tail, 00."

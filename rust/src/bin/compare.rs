@@ -78,7 +78,7 @@ fn start(random: &mut Random) -> Bench {
     } else {
         room
     };
-    let mut counts = [0; 3].map(|_: u64| random.next() % 1000);
+    let mut counts = [0; 3].map(|_: u64| random.number() % 1000);
     if random.percent(10) {
         let near_full = [LIMIT - 2, LIMIT - 1, LIMIT, LIMIT + 1, u64::MAX];
         counts[random.below(3)] = random.pick(&near_full);
@@ -90,7 +90,7 @@ fn start(random: &mut Random) -> Bench {
         good: counts[0],
         error: counts[1],
         dropped: counts[2],
-        length: random.next(),
+        length: random.number(),
     }
 }
 
@@ -99,7 +99,7 @@ fn start_cursor(random: &mut Random, input: &[u8]) -> u64 {
     match random.below(20) {
         0 => n,
         1 => random.pick(&[n + 1, n + 2, u64::MAX, u64::MAX - 1, 1 << 32, 1 << 63]),
-        2 => random.next() % (n + 1),
+        2 => random.number() % (n + 1),
         _ => 0,
     }
 }

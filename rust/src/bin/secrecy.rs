@@ -58,7 +58,7 @@ fn without_passwords(image: &[u8]) -> (&[u8], &[u8]) {
 }
 
 fn nonzero(random: &mut Random) -> [u8; 4] {
-    (random.next() as u32 | 1 << random.below(32)).to_be_bytes()
+    (random.number() as u32 | 1 << random.below(32)).to_be_bytes()
 }
 
 /// Two runs that meet the premises, but for the one that is dropped.
@@ -86,9 +86,9 @@ fn pair(random: &mut Random, dropped: Dropped) -> (Run, Run) {
         output: random.bytes(room),
         state: [
             0,
-            random.next() % 9,
-            random.next() % 9,
-            random.next() % 9,
+            random.number() % 9,
+            random.number() % 9,
+            random.number() % 9,
             0,
         ],
     };
