@@ -13,6 +13,8 @@ use Rattle.frame.specs.Copying.{copied}
 use Rattle.tag.proofs.GoodImages.{Good, good-facts}
 use Rattle.tag.specs.Answers.{pcAndEpc, tail}
 use Rattle.tag.specs.Image.{good, view, wordAt, epcLength}
+use Rattle.tag.specs.Places.{EpcPlace}
+use Rattle.tag.specs.declared.image.Place.{Place}
 use Rattle.tag.specs.declared.image.View.{View}
 use Rattle.execution.specs.Putting.{Put}
 
@@ -41,40 +43,42 @@ module _ (image : List ℕ) (h : good image ≡ true) where
   length-epc : length (pcAndEpc image) ≡ epcBytes (view image)
   length-epc = rw (← epc-is) (length-part-inside image (epcFrom (view image)) (epcBytes (view image)) there)
 
-  -- with the view read by whatever means
-  module _ (v : View) (read : v ≡ view image) where
-    pub epc-most : epcBytes v ≤ 64
-    epc-most = rw read most
+  -- with the place read by whatever means
+  module _ (p : Place) (read : EpcPlace image p) where
+    pub epc-most : p .count ≤ 64
+    epc-most = omega (arith, read .count-is, most)
 
-    pub epc-there : epcFrom v + epcBytes v ≤ length image
-    epc-there = rw read there
+    pub epc-there : p .from + p .count ≤ length image
+    epc-there = omega (arith, read .from-is, read .count-is, there)
+
+    place-is : part image (p .from) (p .count) ≡ pcAndEpc image
+    place-is = simp (read .from-is, read .count-is) epc-is
 
     pub epc-put : (output : List ℕ) (at : ℕ) → at + 64 ≤ length output
-        → (after : List ℕ) → after ≡ copied image (epcFrom v) (epcBytes v) output at → Put (pcAndEpc image) at output after (at + epcBytes v)
+        → (after : List ℕ) → after ≡ copied image (p .from) (p .count) output at → Put (pcAndEpc image) at output after (at + p .count)
     epc-put output at room after e =
-        let copies : copied image (epcFrom v) (epcBytes v) output at ≡ sets output at (part image (epcFrom v) (epcBytes v)) =
-        copied-is image (epcFrom v) (epcBytes v) output at epc-there (omega (arith, epc-most))
+        let copies : copied image (p .from) (p .count) output at ≡ sets output at (part image (p .from) (p .count)) =
+        copied-is image (p .from) (p .count) output at epc-there (omega (arith, epc-most))
         in
-        let piece : part image (epcFrom v) (epcBytes v) ≡ pcAndEpc image = rw read epc-is in
         record {
-          output-is = e ∙ copies ∙ ap (λ (l : List ℕ). sets output at l) piece;
-          next-is = rw (length-epc, read);
+          output-is = e ∙ copies ∙ ap (λ (l : List ℕ). sets output at l) place-is;
+          next-is = simp (length-epc, read .count-is);
         }
 
     pub tail-put : (output : List ℕ) (at : ℕ) (after : List ℕ) (next : ℕ)
-        → Put (pcAndEpc image) (at + 1) (set output at (epcBytes v)) after next → Put (tail image) at output after next
+        → Put (pcAndEpc image) (at + 1) (set output at (p .count)) after next → Put (tail image) at output after next
     unfolding tail epcLength
     tail-put output at after next put =
         record {
           output-is =
               put .output-is
-              ∙ ap (λ (n : ℕ). sets (set output at (epcBytes v)) n (pcAndEpc image)) (add-one at)
-              ∙ ap (λ (w : View). sets (set output at (epcBytes w)) (suc at) (pcAndEpc image)) read;
+              ∙ ap (λ (n : ℕ). sets (set output at (p .count)) n (pcAndEpc image)) (add-one at)
+              ∙ ap (λ (n : ℕ). sets (set output at n) (suc at) (pcAndEpc image)) (read .count-is);
           next-is = put .next-is ∙ omega arith;
         }
 
-    pub epc-between : take (epcFrom v + epcBytes v - epcFrom v) (drop (epcFrom v) image) ≡ pcAndEpc image
+    pub epc-between : take (p .from + p .count - p .from) (drop (p .from) image) ≡ pcAndEpc image
     unfolding part
     epc-between =
-        let n : epcFrom v + epcBytes v - epcFrom v ≡ epcBytes v = omega arith in
-        rw n (rw read epc-is)
+        let n : p .from + p .count - p .from ≡ p .count = omega arith in
+        rw n place-is

@@ -1,6 +1,6 @@
 // Putting the parameters of an answer into the output, piece behind piece. Each function here returns the place behind its piece.
 use frame::copying::copy;
-use tag::image::view_of;
+use tag::image::epc_place;
 ghost use mathlib.Core.Path.{_≡_};
 ghost use mathlib.Core.Bool.{true};
 ghost use Prim.Native.Nat.{_+_, _≤_};
@@ -26,11 +26,9 @@ pub(crate) fn put_pc_and_epc(image: &[u8], output: &mut [u8], at: usize) -> usiz
     requires { ⌜ (good (now image) ≡ true) × (at + 64 ≤ length (now output)) ⌝ }
     ensures { λ r. ⌜ Put (pcAndEpc (now (image .entry))) at (now (output .entry)) (now (output .exit)) r ⌝ }
 {
-    let v = view_of(image);
-    let epc = v.epc;
-    let n = 2 + 2 * (v.pc / 2048);
-    copy(image, epc.offset + 2, n, output, at);
-    at + n
+    let place = epc_place(image);
+    copy(image, place.from, place.count, output, at);
+    at + place.count
 }
 
 // The tail: a byte that counts the bytes of PC and EPC, and these.
@@ -38,8 +36,8 @@ pub(crate) fn put_tail(image: &[u8], output: &mut [u8], at: usize) -> usize
     requires { ⌜ (good (now image) ≡ true) × (at + 65 ≤ length (now output)) ⌝ }
     ensures { λ r. ⌜ Put (tail (now (image .entry))) at (now (output .entry)) (now (output .exit)) r ⌝ }
 {
-    let v = view_of(image);
-    output[at] = (2 + 2 * (v.pc / 2048)) as u8;
+    let place = epc_place(image);
+    output[at] = place.count as u8;
     put_pc_and_epc(image, output, at + 1)
 }
 
@@ -48,9 +46,8 @@ pub(crate) fn crc_of_epc(image: &[u8]) -> u16
     requires { ⌜ good (now image) ≡ true ⌝ }
     ensures { λ r. ⌜ r ≡ tagCrc (pcAndEpc (now (image .entry))) ⌝ }
 {
-    let v = view_of(image);
-    let epc = v.epc;
-    let from = epc.offset + 2;
-    let to = from + (2 + 2 * (v.pc / 2048));
+    let place = epc_place(image);
+    let from = place.from;
+    let to = from + place.count;
     crc::tag_crc(&image[from..to])
 }

@@ -3,3 +3,4 @@ pub mod Bounds
 pub mod Commands
 pub mod Image
 pub mod Locks
+pub mod Places

@@ -1,7 +1,7 @@
 // Whether an image is good (document 01, "The image"): one test after another, and the first that fails settles it.
 use crate::image::Bank;
 use crate::image::View;
-use crate::image::view_of;
+use crate::image::whole_view;
 ghost use mathlib.Core.Path.{_≡_};
 ghost use lib.Dec.{leb};
 ghost use Rattle.tag.specs.Image.{endOf, goodHeader, goodBanks, goodTag, good};
@@ -96,7 +96,10 @@ fn is_good_tag(v: View) -> bool
 pub fn is_good(image: &[u8]) -> bool
     ensures { λ r. ⌜ r ≡ good (now (image .entry)) ⌝ }
 {
-    let v = view_of(image);
+    if image.len() < 24 {
+        return false;
+    }
+    let v = whole_view(image);
     if !is_good_header(v) {
         return false;
     }

@@ -1,8 +1,11 @@
 // What the rules see of an image (document 01, "The image").
 use frame::bytes;
 ghost use mathlib.Core.Path.{_≡_};
-ghost use Prim.Native.Nat.{_<_};
+ghost use Prim.Native.Nat.{_+_, _<_, _≤_};
+ghost use lib.ListN.{length};
+ghost use Rattle.frame.specs.Bytes.{number};
 ghost use Rattle.tag.specs.Bounds.{SmallBank, Small};
+ghost use Rattle.tag.specs.Places.{EpcPlace};
 ghost use Rattle.tag.specs.Image.{bankAt, view, bankOf};
 
 // A bank's place in the image: how many words it has, and where its first byte stands.
@@ -36,8 +39,69 @@ fn bank_at(image: &[u8], i: usize) -> Bank
     }
 }
 
+fn wide(b: u8) -> usize
+    ensures { λ r. ⌜ r ≡ b ⌝ }
+{
+    b as usize
+}
+
+// A number of which both bytes are known to be there: no test.
+fn number_in(image: &[u8], i: usize) -> usize
+    requires { ⌜ i + 1 < length (now image) ⌝ }
+    ensures { λ r. ⌜ r ≡ number (now (image .entry)) i ⌝ }
+    ensures { λ r. ⌜ r < 65536 ⌝ }
+{
+    wide(image[i]) * 256 + wide(image[i + 1])
+}
+
+fn bank_in(image: &[u8], i: usize) -> Bank
+    requires { ⌜ i + 3 < length (now image) ⌝ }
+    ensures { λ r. ⌜ r ≡ bankAt (now (image .entry)) i ⌝ }
+    ensures { λ r. ⌜ SmallBank r ⌝ }
+{
+    Bank {
+        words: number_in(image, i),
+        offset: number_in(image, i + 2),
+    }
+}
+
+// The view of an image that has its whole header, which one test has shown.
+pub(crate) fn whole_view(image: &[u8]) -> View
+    requires { ⌜ 24 ≤ length (now image) ⌝ }
+    ensures { λ r. ⌜ r ≡ view (now (image .entry)) ⌝ }
+    ensures { λ r. ⌜ Small r ⌝ }
+{
+    let epc = bank_in(image, 8);
+    let pc = bytes::number_at(image, epc.offset + 2);
+    let reserved = bank_in(image, 4);
+    let tid = bank_in(image, 12);
+    let user = bank_in(image, 16);
+    View {
+        size: image.len(),
+        format: number_in(image, 0),
+        total: number_in(image, 2),
+        reserved,
+        epc,
+        tid,
+        user,
+        locks: number_in(image, 20),
+        state: image[22],
+        pc,
+    }
+}
+
 // Of any image, also a bad one: what lies behind its end counts as 0.
-pub fn view_of(image: &[u8]) -> View
+pub(crate) fn view_of(image: &[u8]) -> View
+    ensures { λ r. ⌜ r ≡ view (now (image .entry)) ⌝ }
+    ensures { λ r. ⌜ Small r ⌝ }
+{
+    if image.len() < 24 {
+        return short_view(image);
+    }
+    whole_view(image)
+}
+
+fn short_view(image: &[u8]) -> View
     ensures { λ r. ⌜ r ≡ view (now (image .entry)) ⌝ }
     ensures { λ r. ⌜ Small r ⌝ }
 {
@@ -57,6 +121,24 @@ pub fn view_of(image: &[u8]) -> View
         locks: bytes::number_at(image, 20),
         state: bytes::byte_at(image, 22),
         pc,
+    }
+}
+
+// Where the PC and the EPC stand, and how many bytes they have: all that an answer's tail needs of the header.
+pub struct Place {
+    pub from: usize,
+    pub count: usize,
+}
+
+// Of any image, also a bad one: what lies behind its end counts as 0.
+pub fn epc_place(image: &[u8]) -> Place
+    ensures { λ r. ⌜ EpcPlace (now (image .entry)) r ⌝ }
+{
+    let from = bytes::number_at(image, 10) + 2;
+    let pc = bytes::number_at(image, from);
+    Place {
+        from,
+        count: 2 + 2 * (pc / 2048),
     }
 }
 

@@ -6,20 +6,11 @@ use borrow.Author.Needs.{needs}
 use Rattle.execution.proofs.putting.crc_of_epc.Statement.{statement}
 use Rattle.execution.proofs.putting.crc_of_epc.Tie as tie
 
-view-of-requires : tie.Need-view-of-requires
-view-of-requires c κs = search needs
-
-add-from : tie.Need-add-from
-add-from c = search needs
-
-mul-to : tie.Need-mul-to
-mul-to c = search needs
+epc-place-requires : tie.Need-epc-place-requires
+epc-place-requires c κs = search needs
 
 add-to : tie.Need-add-to
 add-to c = search needs
-
-add-to-2 : tie.Need-add-to-2
-add-to-2 c = search needs
 
 sub-tag-crc : tie.Need-sub-tag-crc
 sub-tag-crc c = search needs
@@ -28,23 +19,22 @@ part-tag-crc-start : tie.Need-part-tag-crc-start
 part-tag-crc-start c = search needs
 
 part-tag-crc-end : tie.Need-part-tag-crc-end
-part-tag-crc-end c = epc-there _ (c .before .before .before .before .before .pre) _ (c .before .before .before .view-of .ensures .0)
+part-tag-crc-end c = epc-there _ (c .before .before .before .pre) _ (c .before .epc-place .ensures)
 
 tag-crc-requires : tie.Need-tag-crc-requires
 tag-crc-requires c κs = search needs
 
 returns : tie.Need-returns
-returns c = c .tag-crc .ensures ∙ ap tagCrc (epc-between _ (c .before .before .before .before .before .before .before .pre) _ (c .before .before .before .before .before .view-of .ensures .0))
+returns c =
+    let placed = c .before .before .before in
+    c .tag-crc .ensures ∙ ap tagCrc (epc-between _ (placed .before .before .pre) _ (placed .epc-place .ensures))
 
 pub crc-of-epc-spec : {M : Type 1} → statement M
 crc-of-epc-spec =
     tie.close
     (tie.spec
-    view-of-requires
-    add-from
-    mul-to
+    epc-place-requires
     add-to
-    add-to-2
     sub-tag-crc
     part-tag-crc-start
     part-tag-crc-end

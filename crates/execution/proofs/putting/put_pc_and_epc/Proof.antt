@@ -4,17 +4,8 @@ use borrow.Author.Needs.{needs}
 use Rattle.execution.proofs.putting.put_pc_and_epc.Statement.{statement}
 use Rattle.execution.proofs.putting.put_pc_and_epc.Tie as tie
 
-view-of-requires : tie.Need-view-of-requires
-view-of-requires c κs = search needs
-
-mul-n : tie.Need-mul-n
-mul-n c = search needs
-
-add-n : tie.Need-add-n
-add-n c = search needs
-
-add-copy : tie.Need-add-copy
-add-copy c = search needs
+epc-place-requires : tie.Need-epc-place-requires
+epc-place-requires c κs = search needs
 
 copy-requires : tie.Need-copy-requires
 copy-requires c κs = search needs
@@ -26,9 +17,12 @@ same-length : tie.Need-same-length
 same-length c = search needs
 
 returns : tie.Need-returns
-returns c = epc-put _ (c .before .before .before .before .before .before .before .before .before .before .pre .0) _ (c .before .before .before .before .before .before .before .view-of .ensures .0) _ _ (c .before .before .before .before .before .before .before .before .before .before .pre .1) _ (c .before .before .copy .ensures)
+returns c =
+    let done = c .before .before .before in
+    let placed = done .before .before in
+    let start = placed .before .before .before in
+    epc-put _ (start .pre .0) _ (placed .epc-place .ensures) _ _ (start .pre .1) _ (done .copy .ensures)
 
 pub put-pc-and-epc-spec : {M : Type 1} → statement M
 put-pc-and-epc-spec =
-    tie.close
-    (tie.spec view-of-requires mul-n add-n add-copy copy-requires add-result same-length returns)
+    tie.close (tie.spec epc-place-requires copy-requires add-result same-length returns)

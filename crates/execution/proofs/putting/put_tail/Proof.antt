@@ -8,14 +8,8 @@ use borrow.Author.Needs.{needs}
 use Rattle.execution.proofs.putting.put_tail.Statement.{statement}
 use Rattle.execution.proofs.putting.put_tail.Tie as tie
 
-view-of-requires : tie.Need-view-of-requires
-view-of-requires c κs = search needs
-
-mul-output : tie.Need-mul-output
-mul-output c = search needs
-
-add-output : tie.Need-add-output
-add-output c = search needs
+epc-place-requires : tie.Need-epc-place-requires
+epc-place-requires c κs = search needs
 
 cast-output : tie.Need-cast-output
 cast-output c = search needs
@@ -33,15 +27,16 @@ same-length : tie.Need-same-length
 same-length c = length-put _ _ _ _ _ (c .before .before .put-pc-and-epc .ensures) ∙ simp length-set
 
 returns : tie.Need-returns
-returns c = tail-put _ (c .before .before .before .before .before .before .before .before .pre .0) _ (c .before .before .before .before .before .view-of .ensures .0) _ _ _ _ (c .before .before .put-pc-and-epc .ensures)
+returns c =
+    let done = c .before .before in
+    let placed = done .before .before .before in
+    tail-put _ (placed .before .before .before .pre .0) _ (placed .epc-place .ensures) _ _ _ _ (done .put-pc-and-epc .ensures)
 
 pub put-tail-spec : {M : Type 1} → statement M
 put-tail-spec =
     tie.close
     (tie.spec
-    view-of-requires
-    mul-output
-    add-output
+    epc-place-requires
     cast-output
     slice-write-output
     add-put-pc-and-epc

@@ -1,8 +1,8 @@
--- `view_of` meets its contract: each field is read where the definition reads it, and is a two-byte number.
+-- `short_view` meets its contract: each field is read where the definition reads it, and is a two-byte number.
 use borrow.Author.Needs.{needs}
 use Rattle.tag.specs.Image.{bankAt, view}
-use Rattle.tag.proofs.image.view_of.Statement.{statement}
-use Rattle.tag.proofs.image.view_of.Tie as tie
+use Rattle.tag.proofs.image.short_view.Statement.{statement}
+use Rattle.tag.proofs.image.short_view.Tie as tie
 
 bank-at-requires : tie.Need-bank-at-requires
 bank-at-requires c κs = search needs
@@ -61,8 +61,8 @@ returns c =
       },
     )
 
-pub view-of-spec : {M : Type 1} → statement M
-view-of-spec =
+pub short-view-spec : {M : Type 1} → statement M
+short-view-spec =
     tie.close
     (tie.spec
     bank-at-requires
