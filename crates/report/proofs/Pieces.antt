@@ -49,11 +49,12 @@ module _ (input before : List ℕ) (start : State) (over₀ : Bool) where
     pub bytes : take used buffer ++ reportFrom input over s ≡ reportFrom input over₀ start
     pub behind-stays : drop used buffer ≡ drop used before
     pub some : (0 < used) ⊎ (over ≡ over₀)
+    pub stays-over : over₀ ≡ true → (s ≡ start) × (over ≡ true) × (used ≡ 0)
     pub calls : (k : ℕ) × (s ≡ after (replicate k (call input)) start)
 
   pub going : Going before 0 start over₀
   unfolding after
-  going = record { same = refl; within = omega arith; bytes = refl; behind-stays = refl; some = inr refl; calls = (0, refl) }
+  going = record { same = refl; within = omega arith; bytes = refl; behind-stays = refl; some = inr refl; stays-over = λ h. (refl, h, refl); calls = (0, refl) }
 
   pub goes : (buffer after : List ℕ) (used : ℕ) (s next : State) (over : Bool) (r : Written) → Going buffer used s over → over ≡ false → used + 408 ≤ length buffer
       → OneLine input s used buffer after next r → Going after (r .used) next (r .progress .over)
@@ -83,6 +84,7 @@ module _ (input before : List ℕ) (start : State) (over₀ : Bool) where
             ∙ drop-drop m used before
             ∙ ap (λ (n : ℕ). drop n before) sum;
         some = inl (omega (arith, one .line .some));
+        stays-over = λ h. absurd (never (sym (g .stays-over h .1) ∙ not-over));
         calls = (
           suc (g .calls .0),
           one .next-is ∙ ap (λ (t : State). step (call input) t .next) (g .calls .1) ∙ one-more (call input) (g .calls .0) start,
@@ -120,6 +122,7 @@ module _ (input before : List ℕ) (start : State) (p : Progress) where
               behind-stays = g .behind-stays;
               some = λ fresh. ⊎-elim (λ positive. positive) (λ same. omega (arith, filled (same ∙ fresh))) (g .some);
               filled = filled;
+              stays-over = g .stays-over;
               calls = g .calls;
             };
       }

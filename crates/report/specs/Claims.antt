@@ -40,7 +40,7 @@ sampleReport =
 abbrev pub SampleReport : Type 0
 SampleReport = reportOf sampleCommands sample ≡ sampleReport
 
--- "A call answered 10 to 13 gives only `REFUSED` and the number": a tag.img that is empty, with any commands that are not too long or none
+-- "A call answered 10 to 13 gives only `REFUSED` and the number": both files empty
 abbrev pub EmptyImage : Type 0
 EmptyImage = reportOf [] [] ≡ 82 ∷ 69 ∷ 70 ∷ 85 ∷ 83 ∷ 69 ∷ 68 ∷ 32 ∷ 49 ∷ 49 ∷ 10 ∷ []
 

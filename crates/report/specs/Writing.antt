@@ -1,6 +1,6 @@
 -- What the functions that write the report promise.
 use Prim.Native.Nat.{ℕ, _+_, _-_, _≤_, _<_}
-use mathlib.Core.Bool.{Bool, false}
+use mathlib.Core.Bool.{Bool, true, false}
 use mathlib.Core.List.{List, _++_}
 use mathlib.Core.Path.{_≡_}
 use lib.ListN.{length, take, drop, replicate}
@@ -67,6 +67,8 @@ pub record Piece (input before after : List ℕ) (s : State) (over : Bool) (next
   -- something is written, unless the report was over; and as much as fits, unless it is over now
   pub some : over ≡ false → 0 < r .used
   pub filled : r .progress .over ≡ false → length before < r .used + longestLine
+  -- a report that was over stays so, and nothing changes
+  pub stays-over : over ≡ true → (next ≡ s) × (r .progress .over ≡ true) × (r .used ≡ 0)
   -- image, output, cursor and tally are those after some number of calls
   pub calls : (k : ℕ) × (next ≡ afterCalls (replicate k (call input)) s)
 
