@@ -2,21 +2,19 @@
 use Prim.Native.Nat.{ℕ, _≤_, _<_}
 use borrow.Author.Tests.{lt-ltb, le-ltb, eq-eqb, ne-eqb}
 use lib.ListN.{length, set, getD}
-use mathlib.Core.Bool.{true, false, not}
 use mathlib.Core.List.{List, [], _∷_}
 use mathlib.Core.Path.{_≡_, refl, sym, ap, _∙_}
 use native.Mathlib.Omega.{arith}
 use Rattle.bench.specs.Calls.{left}
 use Rattle.bench.specs.Machine.{stateOf}
 use Rattle.bench.specs.Counts.{limit}
-use Rattle.bench.specs.Machine.{Step, call, step, numberOf}
+use Rattle.bench.specs.Machine.{call, step, numberOf}
 use Rattle.bench.specs.declared.calling.Called.{Called}
 use Rattle.bench.specs.declared.tally.Tally.{Tally}
-use Rattle.embed.specs.Packed.{packed, countsOf, Left, leftBy, told, calledWith, called}
+use Rattle.embed.specs.Packed.{packed, countsOf, leftBy, told, calledWith, called}
 use Rattle.embed.specs.declared.Counts.{Counts}
 use Rattle.embed.specs.declared.Counts.the-variants.{Fit, OutOfRange}
 use Rattle.frame.proofs.Picks.{pick-true, pick-false}
-use Rattle.frame.specs.Bytes.{pick}
 
 -- five stores into a list of five
 pub all-stored : (s : List ℕ) (a b c d e : ℕ) → length s ≡ 5

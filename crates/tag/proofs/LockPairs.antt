@@ -3,20 +3,14 @@ use Prim.Native.Nat.{ℕ, _/_, _%_, _<_}
 use lib.Dec.{eqb}
 use native.Mathlib.Omega.{arith}
 use Rattle.frame.proofs.Picks.{by-test}
+use Rattle.tag.specs.Bounds.{Paired}
 use Rattle.tag.specs.Locks.{pairs, bitsOf, newBit, newPair, newPairs}
 use Rattle.tag.specs.declared.locks.Pairs.{Pairs}
 
-pub record Small (p : Pairs) : Type 0 where
-  pub kill : p .kill < 4
-  pub access : p .access < 4
-  pub epc : p .epc < 4
-  pub tid : p .tid < 4
-  pub user : p .user < 4
-
-pub pairs-small : (bits : ℕ) → Small (pairs bits)
+pub pairs-small : (bits : ℕ) → Paired (pairs bits)
 unfolding pairs
 pairs-small bits =
-    record { kill = omega arith; access = omega arith; epc = omega arith; tid = omega arith; user = omega arith }
+    record { kill-pair = omega arith; access-pair = omega arith; epc-pair = omega arith; tid-pair = omega arith; user-pair = omega arith }
 
 new-bit-small : (mask action old : ℕ) → action < 2 → old < 2 → newBit mask action old < 2
 unfolding newBit
@@ -31,17 +25,17 @@ new-pair-small mask action old a o =
       new-bit-small (mask % 2) (action % 2) (old % 2) (omega arith) (omega arith),
     )
 
-pub new-pairs-small : (mask action old : Pairs) → Small action → Small old → Small (newPairs mask action old)
+pub new-pairs-small : (mask action old : Pairs) → Paired action → Paired old → Paired (newPairs mask action old)
 unfolding newPairs
 new-pairs-small mask action old a o =
     record {
-      kill = new-pair-small _ _ _ (a .kill) (o .kill);
-      access = new-pair-small _ _ _ (a .access) (o .access);
-      epc = new-pair-small _ _ _ (a .epc) (o .epc);
-      tid = new-pair-small _ _ _ (a .tid) (o .tid);
-      user = new-pair-small _ _ _ (a .user) (o .user);
+      kill-pair = new-pair-small _ _ _ (a .kill-pair) (o .kill-pair);
+      access-pair = new-pair-small _ _ _ (a .access-pair) (o .access-pair);
+      epc-pair = new-pair-small _ _ _ (a .epc-pair) (o .epc-pair);
+      tid-pair = new-pair-small _ _ _ (a .tid-pair) (o .tid-pair);
+      user-pair = new-pair-small _ _ _ (a .user-pair) (o .user-pair);
     }
 
-pub bits-small : (p : Pairs) → Small p → bitsOf p < 1024
+pub bits-small : (p : Pairs) → Paired p → bitsOf p < 1024
 unfolding bitsOf
 bits-small p s = omega arith

@@ -9,11 +9,6 @@ use Rattle.report.specs.Report.{reportFrom}
 use Rattle.report.specs.Writing.{standing}
 use Rattle.console.proofs.print_pieces.Statement.{statement}
 use Rattle.console.proofs.print_pieces.Tie as tie
-use Rattle.console.proofs.print_pieces.Reads as reads
-use Rattle.console.proofs.print_pieces.Lts as lts
-use Rattle.io.proofs.write_all.Reads as write-all-reads
-use Rattle.report.proofs.writing.Progress.start.Reads as start-reads
-use Rattle.report.proofs.writing.write.Reads as write-reads
 
 abbrev Inv-loop : tie.InvT-loop
 Inv-loop commands image₀ output₀ buffer₀ progress₀ image output buffer progress = Going commands image₀ output₀ buffer₀ image output buffer progress
