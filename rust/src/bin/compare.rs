@@ -1,9 +1,9 @@
 //! Feeds the same random calls to the proved bench and to the independent model, and compares
 //! number, length, whole image, whole output, cursor and counts after each call.
 //!
-//!     compare [CALLS] [SEED] [SESSION]
+//!     compare [CALLS] [SEED] [TRIAL]
 //!
-//! A session is one image with its row of calls, drawn from the seed and the session's number
+//! A trial is one image with its row of calls, drawn from the seed and the trial's number
 //! alone, so that a difference is replayed by naming both. A run in which some branch of the model
 //! was never taken counts as failed: it would have compared less than it says.
 
@@ -104,19 +104,19 @@ fn start_cursor(random: &mut Random, input: &[u8]) -> u64 {
     }
 }
 
-fn report(seed: u64, session: u64, call: u64, input: &[u8], numbers: (u64, u64)) -> ! {
-    println!("DIFFERENT at call {call} of session {session}, seed {seed}");
+fn report(seed: u64, trial: u64, call: u64, input: &[u8], numbers: (u64, u64)) -> ! {
+    println!("DIFFERENT at call {call} of trial {trial}, seed {seed}");
     println!(
         "answer of the proved bench {}, of the model {}",
         numbers.0, numbers.1
     );
     println!("input {input:02X?}");
-    println!("replay: compare 1 {seed} {session}");
+    println!("replay: compare 1 {seed} {trial}");
     exit(1)
 }
 
-/// One session: several inputs on one image. Gives the number of calls made.
-fn session(seed: u64, number: u64, answers: &mut [u64; 22]) -> u64 {
+/// One trial: several inputs on one image. Gives the number of calls made.
+fn trial(seed: u64, number: u64, answers: &mut [u64; 22]) -> u64 {
     let mut random = Random::new(seed ^ number.wrapping_mul(0xD129_0C6B_4A1E_35F7));
     let mut bench = start(&mut random);
     let mut proved = Proved::of(&bench);
@@ -167,7 +167,7 @@ fn wrong_state_length(random: &mut Random, proved: &Proved, input: &[u8]) {
 fn main() {
     let arguments: Vec<u64> = std::env::args()
         .skip(1)
-        .map(|a| a.parse().expect("CALLS, SEED and SESSION are numbers"))
+        .map(|a| a.parse().expect("CALLS, SEED and TRIAL are numbers"))
         .collect();
     let wanted = arguments.first().copied().unwrap_or(300_000);
     let seed = arguments.get(1).copied().unwrap_or_else(|| {
@@ -176,22 +176,22 @@ fn main() {
     });
     let mut answers = [0; 22];
     if let Some(only) = arguments.get(2) {
-        let calls = session(seed, *only, &mut answers);
-        println!("session {only} of seed {seed}: {calls} calls, no difference");
+        let calls = trial(seed, *only, &mut answers);
+        println!("trial {only} of seed {seed}: {calls} calls, no difference");
         return;
     }
     println!("comparing {wanted} calls, seed {seed}");
     let mut calls = 0;
-    let mut sessions = 0;
+    let mut trials = 0;
     while calls < wanted {
-        calls += session(seed, sessions, &mut answers);
-        sessions += 1;
+        calls += trial(seed, trials, &mut answers);
+        trials += 1;
     }
-    finish(seed, sessions, calls, &answers);
+    finish(seed, trials, calls, &answers);
 }
 
-fn finish(seed: u64, sessions: u64, calls: u64, answers: &[u64; 22]) {
-    println!("{calls} calls in {sessions} sessions, seed {seed}: no difference");
+fn finish(seed: u64, trials: u64, calls: u64, answers: &[u64; 22]) {
+    println!("{calls} calls in {trials} trials, seed {seed}: no difference");
     for (number, count) in answers.iter().enumerate().filter(|(_, c)| **c > 0) {
         println!("  answer {number:2}: {count}");
     }

@@ -176,7 +176,7 @@ struct Start {
 }
 
 /// Calls on both, as long as they agree. Gives the calls made, and whether they agreed.
-fn session(random: &mut Random, dropped: Dropped) -> (u64, bool) {
+fn trial(random: &mut Random, dropped: Dropped) -> (u64, bool) {
     let mut runs = pair(random, dropped);
     let before = runs.clone();
     let start = Start {
@@ -217,16 +217,16 @@ fn agree(runs: &(Run, Run), before: &(Run, Run), dropped: Dropped) -> bool {
         && kept(&runs.1, &before.1)
 }
 
-/// Runs sessions until the calls are made or two runs differ.
+/// Runs trials until the calls are made or two runs differ.
 fn try_out(seed: u64, wanted: u64, dropped: Dropped) -> (u64, bool) {
     let mut calls = 0;
     let mut number = 0;
     while calls < wanted {
         let mut random = Random::new(seed ^ u64::wrapping_mul(number, 0xA24B_AED4_963E_E407));
-        let (made, agreed) = session(&mut random, dropped);
+        let (made, agreed) = trial(&mut random, dropped);
         calls += made;
         if !agreed {
-            println!("  session {number}, after {calls} calls");
+            println!("  trial {number}, after {calls} calls");
             return (calls, false);
         }
         number += 1;
