@@ -27,7 +27,7 @@ everything = tt
 
 pub starred : Starred
 unfolding everything
-starred = refl
+starred = (refl, refl)
 
 -- ---- demand 3's premises, met
 

@@ -143,9 +143,9 @@ Bound =
 
 -- ---- Demand 2: each command has its effect and answer
 
--- "The starred cases": answer, frame and the whole state that is left
+-- The starred cases, fifteen of them: answer, frame and the whole state that is left
 abbrev pub Starred : Type 0
-Starred = map given cases ≡ map expected cases
+Starred = (map given cases ≡ map expected cases) × (length cases ≡ 15)
 
 -- "After every call a good image is good."
 abbrev pub GoodStaysGood : Type 0
