@@ -1,4 +1,5 @@
-// Runs whose reports were worked out by hand from document 01: each heading is followed by the report.
+// Runs whose answers were written down from document 01, apart from the code; a script laid out their bytes and checks. Each heading is
+// followed by the report.
 use frame::copying::copy;
 use libc::STDOUT_FILENO;
 use samples::FALSE_HEADER;
