@@ -1,5 +1,5 @@
 -- Laws of the CRC's steps: one bit in each direction, one bit more of a byte, one byte more of the bytes.
-use Prim.Native.Nat.{ℕ, zero, suc, _+_, _-_, _*_, _/_, _%_, _≤_, _<_}
+use Prim.Native.Nat.{ℕ, suc, _+_, _-_, _*_, _/_, _%_, _≤_, _<_}
 use borrow.Author.Tests.{le-leb, lt-leb, eq-eqb, ne-eqb}
 use lib.Bits.{bitXor}
 use lib.ListN.{length, drop, getD, drop-of-length-le}
@@ -35,18 +35,18 @@ module _ (polynomial register : ℕ) where
 
 module _ (direction : Direction) (polynomial : ℕ) where
   -- of the bits left, one is worked now
-  pub bits-next : (n register : ℕ) → 0 < n
-      → bitSteps direction polynomial (n - 1) (bitStep direction polynomial register) ≡ bitSteps direction polynomial n register
+  pub bits-next : (i register : ℕ) → i < 8
+      → bitSteps direction polynomial (8 - (i + 1)) (bitStep direction polynomial register) ≡ bitSteps direction polynomial (8 - i) register
   unfolding bitSteps
-  bits-next zero register some = absurd (omega arith)
-  bits-next (suc n) register some =
-      let less : suc n - 1 ≡ n = omega arith in
-      rw less
+  bits-next i register some =
+      let left : 8 - i ≡ suc (8 - (i + 1)) = omega arith in
+      rw left
 
-  pub bits-none : (n register : ℕ) → n ≤ 0 → bitSteps direction polynomial n register ≡ register
+  pub bits-none : (i register : ℕ) → 8 ≤ i → bitSteps direction polynomial (8 - i) register ≡ register
   unfolding bitSteps
-  bits-none zero register none = refl
-  bits-none (suc n) register none = absurd (omega arith)
+  bits-none i register none =
+      let left : 8 - i ≡ 0 = omega arith in
+      rw left
 
   module _ (bytes : List ℕ) (i register : ℕ) where
     -- of the bytes left, one is worked now

@@ -44,15 +44,15 @@ fn wide(b: u8) -> u16
     b as u16
 }
 
-// A byte enters, and its eight bits are worked.
+// A byte enters, and its eight bits are worked. They are counted up from 0: a compiler that knows this loop makes a table of it.
 fn byte_step(direction: Direction, polynomial: u16, register: u16, b: u8) -> u16
     ensures { λ r. ⌜ r ≡ byteStep direction polynomial register b ⌝ }
 {
     let mut worked = enter(direction, register, b);
-    let mut bits: usize = 8;
-    while 0 < bits {
+    let mut bits: usize = 0;
+    while bits < 8 {
         worked = bit_step(direction, polynomial, worked);
-        bits -= 1;
+        bits += 1;
     }
     worked
 }

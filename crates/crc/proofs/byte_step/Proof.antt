@@ -1,4 +1,5 @@
 -- `byte_step` meets its contract: what is worked, with the bits left, is the whole byte's step.
+use Prim.Native.Nat.{_-_}
 use mathlib.Core.Path.{_≡_, sym, ap, _∙_}
 use native.Mathlib.Omega.{arith}
 use borrow.Author.Needs.{needs}
@@ -9,10 +10,10 @@ use Rattle.crc.proofs.byte_step.Tie as tie
 
 abbrev Inv-loop : tie.InvT-loop
 Inv-loop direction polynomial register b worked₀ bits₀ worked bits =
-    bitSteps direction polynomial bits worked ≡ byteStep direction polynomial register b
+    bitSteps direction polynomial (8 - bits) worked ≡ byteStep direction polynomial register b
 
 abbrev μ-loop : tie.MeasureT-loop
-μ-loop direction polynomial register b worked₀ bits₀ worked bits = bits
+μ-loop direction polynomial register b worked₀ bits₀ worked bits = 8 - bits
 
 enter-requires : tie.Need-enter-requires Inv-loop μ-loop
 enter-requires c κs = search needs
@@ -24,8 +25,8 @@ loop-holds c = ap (bitSteps _ _ 8) (c .enter .ensures)
 bit-step-requires : tie.Need-bit-step-requires Inv-loop μ-loop
 bit-step-requires c κs = search needs
 
-sub-bits : tie.Need-sub-bits Inv-loop μ-loop
-sub-bits c = omega arith
+add-bits : tie.Need-add-bits Inv-loop μ-loop
+add-bits c = omega arith
 
 loop-less : tie.Need-loop-less Inv-loop μ-loop
 loop-less c = omega arith
@@ -47,7 +48,7 @@ byte-step-spec =
     enter-requires
     loop-holds
     bit-step-requires
-    sub-bits
+    add-bits
     loop-less
     loop-again
     returns)
