@@ -12,6 +12,7 @@ use Rattle.tag.specs.Commands.{actOf}
 use Rattle.tag.specs.Image.{good}
 use Rattle.tag.specs.declared.commands.Act.{Act}
 use Rattle.execution.proofs.Executions.{runs}
+use Rattle.execution.proofs.Reaches.{good-in-reach}
 use Rattle.execution.specs.Execution.{imageAfter, outputAfter, reported, resultOf, Execution}
 use Rattle.execution.specs.declared.execute.Executed.{Executed}
 use Rattle.execution.specs.declared.execute.Executed.the-variants.{Refused, Good, Error}
@@ -26,9 +27,9 @@ pub ran : (image output : List ℕ) (code : ℕ) (p imageLeft outputLeft : List 
 unfolding imageAfter outputAfter resultOf
 ran image output code p imageLeft outputLeft result h room e =
     record {
-      image-is = e .image-is ∙ simp (runs image output room h, pick-true);
-      output-is = e .output-is ∙ simp (runs image output room h, pick-true);
-      result-is = e .result-is ∙ simp (runs image output room h, pick-true);
+      image-is = e .image-is ∙ simp (runs image output p (actOf image code p) room (good-in-reach image h code p), pick-true);
+      output-is = e .output-is ∙ simp (runs image output p (actOf image code p) room (good-in-reach image h code p), pick-true);
+      result-is = e .result-is ∙ simp (runs image output p (actOf image code p) room (good-in-reach image h code p), pick-true);
     }
 
 -- the kind of an act, and the length of its answer, from the result

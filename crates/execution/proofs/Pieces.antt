@@ -2,7 +2,6 @@
 use Prim.Native.Nat.{ℕ, _+_, _-_, _≤_}
 use lib.ListN.{length, set, length-append}
 use lib.Seq.{sets}
-use mathlib.Core.Bool.{true}
 use mathlib.Core.List.{List, [], _∷_, _++_}
 use mathlib.Core.Path.{_≡_, refl, ap, _∙_}
 use native.Mathlib.Omega.{arith}
@@ -13,10 +12,8 @@ use Rattle.frame.specs.Bytes.{byte, part, twoBytes}
 use Rattle.frame.specs.Closing.{Closing}
 use Rattle.frame.specs.Copying.{copied}
 use Rattle.frame.specs.Frames.{frameOf}
-use Rattle.tag.proofs.AnswerBytes.{pc-and-epc-most, tail-most}
-use Rattle.tag.proofs.GoodImages.{good-facts}
 use Rattle.tag.specs.Answers.{pcAndEpc, tail, answer}
-use Rattle.tag.specs.Image.{good, rssi}
+use Rattle.tag.specs.Image.{rssi}
 use Rattle.tag.specs.declared.commands.Act.the-variants.{TagError, Notify, Give}
 use Rattle.execution.proofs.Rounds.{length-put, sets-join, set-join, closed-round}
 use Rattle.execution.specs.Putting.{Put, Answered}
@@ -26,53 +23,50 @@ module _ (output : List ℕ) (room : 136 ≤ length output) where
       → Answered (frameOf 0x01 0xFF (e ∷ [])) output after result
   plain-closed e after result = closed-round 0x01 0xFF (e ∷ []) output (omega arith) room (set output 5 e) refl 1 refl after result
 
-  module _ (image : List ℕ) (h : good image ≡ true) where
-    few : length (tail image) ≤ 65
-    few = tail-most image (good-facts image h)
-
-    pub tag-error-closed : (e : ℕ) (stored : List ℕ) (next : ℕ) → Put (tail image) 6 (set output 5 e) stored next
+  module _ (image : List ℕ) where
+    pub tag-error-closed : (e : ℕ) (stored : List ℕ) (next : ℕ) → Put (tail image) 6 (set output 5 e) stored next → next ≤ 71
         → (after : List ℕ) (result : ℕ) → Closing 0x01 0xFF (next - 5) stored after result → Answered (answer image (TagError e)) output after result
     unfolding answer
-    tag-error-closed e stored next put =
-        closed-round 0x01 0xFF (e ∷ tail image) output (omega (arith, few)) room stored (put .output-is) (next - 5) (omega (arith, put .next-is))
+    tag-error-closed e stored next put short =
+        closed-round 0x01 0xFF (e ∷ tail image) output (omega (arith, put .next-is)) room stored (put .output-is) (next - 5) (omega (arith, put .next-is))
 
-    pub done-closed : (code : ℕ) (stored : List ℕ) (next : ℕ) → Put (tail image) 5 output stored next
+    pub done-closed : (code : ℕ) (stored : List ℕ) (next : ℕ) → Put (tail image) 5 output stored next → next ≤ 70
         → (after : List ℕ) (result : ℕ) → Closing 0x01 code (next - 4) (set stored next 0) after result
         → Answered (frameOf 0x01 code (tail image ++ (0x00 ∷ []))) output after result
-    done-closed code stored next put =
+    done-closed code stored next put short =
         let whole : length (tail image ++ (0x00 ∷ [])) ≡ length (tail image) + 1 = length-append (tail image) (0x00 ∷ []) in
         let joined : set stored next 0 ≡ sets output 5 (tail image ++ (0x00 ∷ [])) =
         rw (put .output-is, put .next-is) (set-join output 5 (tail image) 0)
         in
-        closed-round 0x01 code (tail image ++ (0x00 ∷ [])) output (omega (arith, few)) room (set stored next 0) joined (next - 4)
+        closed-round 0x01 code (tail image ++ (0x00 ∷ [])) output (omega (arith, put .next-is)) room (set stored next 0) joined (next - 4)
         (omega (arith, put .next-is))
 
     module _ (at n : ℕ) (there : at + n ≤ length image) (some : n ≤ 64) where
-      pub give-closed : (stored : List ℕ) (next : ℕ) → Put (tail image) 5 output stored next
+      pub give-closed : (stored : List ℕ) (next : ℕ) → Put (tail image) 5 output stored next → next ≤ 70
           → (copies : List ℕ) → copies ≡ copied image at n stored next
           → (after : List ℕ) (result : ℕ) → Closing 0x01 0x39 (next + n - 5) copies after result → Answered (answer image (Give at n)) output after result
       unfolding answer
-      give-closed stored next put copies c =
+      give-closed stored next put short copies c =
           let words : length (part image at n) ≡ n = length-part-inside image at n there in
           let whole : length (tail image ++ part image at n) ≡ length (tail image) + length (part image at n) =
           length-append (tail image) (part image at n)
           in
           let same : length stored ≡ length output = length-put (tail image) 5 output stored next put in
           let copied-all : copied image at n stored next ≡ sets stored next (part image at n) =
-          copied-is image at n stored next there (omega (arith, put .next-is, few))
+          copied-is image at n stored next there (omega arith)
           in
           let joined : sets stored next (part image at n) ≡ sets output 5 (tail image ++ part image at n) =
           rw (put .output-is, put .next-is) (sets-join output 5 (tail image) (part image at n))
           in
-          closed-round 0x01 0x39 (tail image ++ part image at n) output (omega (arith, few)) room copies (c ∙ copied-all ∙ joined) (next + n - 5)
+          closed-round 0x01 0x39 (tail image ++ part image at n) output (omega (arith, put .next-is)) room copies (c ∙ copied-all ∙ joined) (next + n - 5)
           (omega (arith, put .next-is))
 
     pub notify-closed : (strength : ℕ) → strength ≡ byte image 23 → (stored : List ℕ) (next : ℕ)
-        → Put (pcAndEpc image) 6 (set output 5 strength) stored next
+        → Put (pcAndEpc image) 6 (set output 5 strength) stored next → next ≤ 70
         → (crc : ℕ) → crc ≡ tagCrc (pcAndEpc image) → (numbered : List ℕ) → numbered ≡ sets stored next (twoBytes crc)
         → (after : List ℕ) (result : ℕ) → Closing 0x02 0x22 (next - 3) numbered after result → Answered (answer image Notify) output after result
     unfolding answer rssi
-    notify-closed strength s stored next put crc worked numbered two =
+    notify-closed strength s stored next put short crc worked numbered two =
         let sum : List ℕ = twoBytes (tagCrc (pcAndEpc image)) in
         let piece : List ℕ = pcAndEpc image ++ sum in
         let whole : length piece ≡ length (pcAndEpc image) + 2 =
@@ -81,5 +75,5 @@ module _ (output : List ℕ) (room : 136 ≤ length output) where
         let joined : sets stored next sum ≡ sets output 5 (byte image 23 ∷ piece) =
         rw (put .output-is, put .next-is, s) (sets-join (set output 5 (byte image 23)) 6 (pcAndEpc image) sum)
         in
-        closed-round 0x02 0x22 (byte image 23 ∷ piece) output (omega (arith, pc-and-epc-most image (good-facts image h))) room numbered
+        closed-round 0x02 0x22 (byte image 23 ∷ piece) output (omega (arith, put .next-is)) room numbered
         (two ∙ ap (λ (n : ℕ). sets stored next (twoBytes n)) worked ∙ joined) (next - 3) (omega (arith, put .next-is))

@@ -1,95 +1,97 @@
--- On a good image the bytes of a Read that is answered, and the room of a Write that stores, lie inside the image.
-use Prim.Native.Nat.{ℕ, _*_, _≤_}
+-- What a command needs of the image: a good one has it, and what has it serves the answer and the store.
+use Prim.Native.Nat.{ℕ, _+_, _*_, _≤_}
+use borrow.Author.Tests.{le-leb, leb-true}
 use lib.ListN.{length}
-use mathlib.Core.Bool.{true}
+use lib.Dec.{leb}
+use mathlib.Core.Bool.{true, _&&_}
 use mathlib.Core.List.{List}
-use mathlib.Core.Path.{_≡_}
+use mathlib.Core.Path.{_≡_, refl}
 use native.Mathlib.Omega.{arith}
+use Rattle.frame.proofs.Tests.{and-left, and-right, and-both}
 use Rattle.tag.proofs.Cases.{Reads, Writes, placeOf, act-cases}
 use Rattle.tag.proofs.GoodImages.{Good, good-facts}
 use Rattle.tag.proofs.Places.{Inside, inside, data-length}
-use Rattle.tag.specs.Commands.{countIn, actOf}
-use Rattle.tag.specs.Image.{good, view}
+use Rattle.tag.specs.Commands.{dataIn, countIn, actOf}
+use Rattle.tag.specs.Image.{good, view, wordAt, epcLength}
 use Rattle.tag.specs.declared.commands.Act.{Act}
 use Rattle.tag.specs.declared.commands.Act.the-variants.{PlainError, TagError, Notify, Give, Store, SetLocks, SetKilled}
-use Rattle.execution.specs.Reach.{Gives, Stores}
+use Rattle.execution.specs.Reach.{has, hasEpc, hasNamed, inReach, Gives, Stores}
 
-pub good-least : (image : List ℕ) → good image ≡ true → 24 ≤ length image
-unfolding view
-good-least image h = let g : Good (view image) = good-facts image h in omega (arith, g .total-least, g .total-lent)
+pub there-has : (bytes : List ℕ) (at n : ℕ) → at + n ≤ length bytes → has bytes at n ≡ true
+unfolding has
+there-has bytes at n h = le-leb (at + n) (length bytes) h
 
--- ---- an act that is no Give, and one that is no Store
+pub has-there : (bytes : List ℕ) (at n : ℕ) → has bytes at n ≡ true → at + n ≤ length bytes
+unfolding has
+has-there bytes at n h = leb-true (at + n) (length bytes) h
 
-gives-none : (image : List ℕ) (act : Act) → ((at n : ℕ) → act ≡ Give at n → _≡_ {A = ℕ} 0 1) → Gives image act
-gives-none image act other =
-    record {
-      there = λ at n e. let z : _≡_ {A = ℕ} 0 1 = other at n e in absurd (omega arith);
-      few = λ at n e. let z : _≡_ {A = ℕ} 0 1 = other at n e in absurd (omega arith);
-    }
+-- ---- an image in whose reach an act is
 
-stores-none : (image p : List ℕ) (act : Act) → ((at : ℕ) → act ≡ Store at → _≡_ {A = ℕ} 0 1) → Stores image p act
-stores-none image p act other =
-    record {
-      fields = λ at e. let z : _≡_ {A = ℕ} 0 1 = other at e in absurd (omega arith);
-      room = λ at e. let z : _≡_ {A = ℕ} 0 1 = other at e in absurd (omega arith);
-    }
+module _ (image p : List ℕ) (act : Act) (h : inReach image p act ≡ true) where
+  pub reach-least : 24 ≤ length image
+  unfolding inReach
+  reach-least = leb-true 24 (length image) (and-left (leb 24 (length image)) (hasEpc image && hasNamed image p act) h)
 
--- ---- a Read's Give, and a Write's Store
+  behind-header : (hasEpc image && hasNamed image p act) ≡ true
+  unfolding inReach
+  behind-header = and-right (leb 24 (length image)) (hasEpc image && hasNamed image p act) h
 
-module _ (image p : List ℕ) (g : Good (view image)) where
-  read-gives : Reads image p → Gives image (Give (placeOf image p) (2 * countIn p))
-  read-gives reads =
-      let at-home : Inside image p = inside image p g (reads .aim) in
+  pub reach-epc : hasEpc image ≡ true
+  reach-epc = and-left (hasEpc image) (hasNamed image p act) behind-header
+
+  named : (other : Act) → act ≡ other → hasNamed image p other ≡ true
+  named other e = rw e at (and-right (hasEpc image) (hasNamed image p act) behind-header)
+
+  pub reach-gives : Gives image act
+  unfolding hasNamed
+  reach-gives =
       record {
-        there =
-            λ at n e.
-            let place : placeOf image p ≡ at = cc in
-            let many : 2 * countIn p ≡ n = cc in
-            omega (arith, at-home .to);
-        few =
-            λ at n e.
-            let many : 2 * countIn p ≡ n = cc in
-            omega (arith, reads .aim .count-most);
+        there = λ at n e. has-there image at n (and-right (leb n 64) (has image at n) (named (Give at n) e));
+        few = λ at n e. leb-true n 64 (and-left (leb n 64) (has image at n) (named (Give at n) e));
       }
 
-  write-stores : Writes image p → Stores image p (Store (placeOf image p))
-  write-stores writes =
-      let at-home : Inside image p = inside image p g (writes .aim) in
+  pub reach-stores : Stores image p act
+  unfolding hasNamed
+  reach-stores =
       record {
-        fields = λ at e. omega (arith, writes .fields);
-        room =
-            λ at e.
-            let place : placeOf image p ≡ at = cc in
-            omega (arith, at-home .to, data-length image p writes);
+        fields = λ at e. leb-true 9 (length p) (and-left (leb 9 (length p)) (has image at (length (dataIn p))) (named (Store at) e));
+        room = λ at e. has-there image at (length (dataIn p)) (and-right (leb 9 (length p)) (has image at (length (dataIn p))) (named (Store at) e));
       }
 
--- ---- every act
+-- ---- a good image
 
-module _ (image : List ℕ) (h : good image ≡ true) (code : ℕ) (p : List ℕ) where
-  gives-command : Gives image (actOf image code p)
-  gives-command =
-      act-cases (Gives image) (λ e. gives-none image (PlainError e) (λ at n q. cc)) (λ e. gives-none image (TagError e) (λ at n q. cc))
-      image p code
-      (λ c. gives-none image Notify (λ at n q. cc))
-      (λ c reads. read-gives image p (good-facts image h) reads)
-      (λ c writes. gives-none image (Store (placeOf image p)) (λ at n q. cc))
-      (λ c secured. gives-none image (SetLocks _) (λ at n q. cc))
-      (λ c equal. gives-none image SetKilled (λ at n q. cc))
+module _ (image : List ℕ) (g : Good (view image)) where
+  least : 24 ≤ length image
+  unfolding view
+  least = omega (arith, g .total-least, g .total-lent)
 
-  stores-command : Stores image p (actOf image code p)
-  stores-command =
-      act-cases (Stores image p) (λ e. stores-none image p (PlainError e) (λ at q. cc)) (λ e. stores-none image p (TagError e) (λ at q. cc))
-      image p code
-      (λ c. stores-none image p Notify (λ at q. cc))
-      (λ c reads. stores-none image p (Give _ _) (λ at q. cc))
-      (λ c writes. write-stores image p (good-facts image h) writes)
-      (λ c secured. stores-none image p (SetLocks _) (λ at q. cc))
-      (λ c equal. stores-none image p SetKilled (λ at q. cc))
+  epc : hasEpc image ≡ true
+  unfolding hasEpc wordAt epcLength view
+  epc = there-has image _ _ (omega (arith, g .epc-fits, g .tid-place, g .user-place, g .last-end, g .total-lent))
 
-  -- the act judged by whatever means
-  module _ (act : Act) (judged : act ≡ actOf image code p) where
-    pub gives-judged : Gives image act
-    gives-judged = rw judged gives-command
+  module _ (p : List ℕ) where
+    read-named : Reads image p → hasNamed image p (Give (placeOf image p) (2 * countIn p)) ≡ true
+    unfolding hasNamed
+    read-named reads =
+        let home : Inside image p = inside image p g (reads .aim) in
+        and-both _ _ (le-leb (2 * countIn p) 64 (omega (arith, reads .aim .count-most)))
+        (there-has image (placeOf image p) (2 * countIn p) (omega (arith, home .to)))
 
-    pub stores-judged : Stores image p act
-    stores-judged = rw judged stores-command
+    write-named : Writes image p → hasNamed image p (Store (placeOf image p)) ≡ true
+    unfolding hasNamed
+    write-named writes =
+        let home : Inside image p = inside image p g (writes .aim) in
+        and-both _ _ (le-leb 9 (length p) (omega (arith, writes .fields)))
+        (there-has image (placeOf image p) (length (dataIn p)) (omega (arith, home .to, data-length image p writes)))
+
+    command-named : (code : ℕ) → hasNamed image p (actOf image code p) ≡ true
+    unfolding hasNamed
+    command-named code =
+        act-cases (λ (act : Act). hasNamed image p act ≡ true) (λ e. refl) (λ e. refl) image p code (λ c. refl)
+        (λ c reads. read-named reads) (λ c writes. write-named writes) (λ c secured. refl) (λ c equal. refl)
+
+pub good-in-reach : (image : List ℕ) → good image ≡ true → (code : ℕ) (p : List ℕ) → inReach image p (actOf image code p) ≡ true
+unfolding inReach
+good-in-reach image h code p =
+    let g : Good (view image) = good-facts image h in
+    and-both _ _ (le-leb 24 (length image) (least image g)) (and-both _ _ (epc image g) (command-named image g p code))

@@ -1,5 +1,6 @@
--- The PC and the EPC of a good image are all there, at most 64 bytes, and the tail is these behind their count.
+-- The PC and the EPC of an image that has them: at most 64 bytes, and the tail is these behind their count.
 use Prim.Native.Nat.{ℕ, suc, _+_, _*_, _/_, _-_, _≤_}
+use borrow.Author.Tests.{leb-true}
 use lib.ListN.{length, take, drop, set}
 use lib.Seq.{sets}
 use mathlib.Core.Bool.{true}
@@ -10,13 +11,13 @@ use native.Mathlib.Omega.{arith}
 use Rattle.frame.proofs.Copies.{length-part-inside, copied-is}
 use Rattle.frame.specs.Bytes.{part}
 use Rattle.frame.specs.Copying.{copied}
-use Rattle.tag.proofs.GoodImages.{Good, good-facts}
 use Rattle.tag.specs.Answers.{pcAndEpc, tail}
-use Rattle.tag.specs.Image.{good, view, wordAt, epcLength}
+use Rattle.tag.specs.Image.{view, wordAt, epcLength}
 use Rattle.tag.specs.Places.{EpcPlace}
 use Rattle.tag.specs.declared.image.Place.{Place}
 use Rattle.tag.specs.declared.image.View.{View}
 use Rattle.execution.specs.Putting.{Put}
+use Rattle.execution.specs.Reach.{has, hasEpc}
 
 -- where the PC stands, and how many bytes it has with the EPC
 abbrev pub epcFrom : View → ℕ
@@ -25,16 +26,10 @@ epcFrom v = v .epc .offset + 2
 abbrev pub epcBytes : View → ℕ
 epcBytes v = 2 + 2 * (v .pc / 2048)
 
-module _ (image : List ℕ) (h : good image ≡ true) where
-  most : epcBytes (view image) ≤ 64
-  unfolding epcLength
-  most = let g : Good (view image) = good-facts image h in omega (arith, g .epc-fits, g .epc-most)
-
+module _ (image : List ℕ) (h : hasEpc image ≡ true) where
   there : epcFrom (view image) + epcBytes (view image) ≤ length image
-  unfolding epcLength view
-  there =
-      let g : Good (view image) = good-facts image h in
-      omega (arith, g .epc-fits, g .tid-place, g .user-place, g .last-end, g .total-lent)
+  unfolding hasEpc has wordAt epcLength
+  there = leb-true (epcFrom (view image) + epcBytes (view image)) (length image) h
 
   epc-is : part image (epcFrom (view image)) (epcBytes (view image)) ≡ pcAndEpc image
   unfolding pcAndEpc epcLength wordAt
@@ -46,7 +41,7 @@ module _ (image : List ℕ) (h : good image ≡ true) where
   -- with the place read by whatever means
   module _ (p : Place) (read : EpcPlace image p) where
     pub epc-most : p .count ≤ 64
-    epc-most = omega (arith, read .count-is, most)
+    epc-most = omega (arith, read .count-is, read .count-small)
 
     pub epc-there : p .from + p .count ≤ length image
     epc-there = omega (arith, read .from-is, read .count-is, there)

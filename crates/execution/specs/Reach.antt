@@ -1,18 +1,43 @@
--- What an act names is there: the bytes of a Read lie in the image, and a Write's data have room in it.
-use Prim.Native.Nat.{ℕ, _+_, _≤_}
+-- What a command needs of the image, good or not: the header, the PC and the EPC for the answer, and the bytes that its act names.
+use Prim.Native.Nat.{ℕ, _+_, _*_, _≤_}
+use mathlib.Core.Bool.{Bool, true, _&&_}
 use mathlib.Core.List.{List}
 use mathlib.Core.Path.{_≡_}
+use lib.Dec.{leb}
 use lib.ListN.{length}
 use Rattle.tag.specs.Commands.{dataIn}
+use Rattle.tag.specs.Image.{view, wordAt, epcLength}
 use Rattle.tag.specs.declared.commands.Act.{Act}
-use Rattle.tag.specs.declared.commands.Act.the-variants.{Give, Store}
+use Rattle.tag.specs.declared.commands.Act.the-variants.{PlainError, TagError, Notify, Give, Store, SetLocks, SetKilled}
 
--- "count not 1 to 32: plain 17": no more than 32 words are handed out
+-- the n bytes from `at` on are there
+unfoldable pub has : List ℕ → ℕ → ℕ → Bool
+has bytes at n = leb (at + n) (length bytes)
+
+-- the PC and the L words behind it are there
+unfoldable pub hasEpc : List ℕ → Bool
+hasEpc image = has image (wordAt (view image .epc) 1) (2 + 2 * epcLength (view image .pc))
+
+-- the bytes of a Read, no more than 32 words, are there; so is the room for a Write's data, which follow the first nine of the
+-- parameters `p`
+unfoldable pub hasNamed : List ℕ → List ℕ → Act → Bool
+hasNamed image p (PlainError e) = true
+hasNamed image p (TagError e) = true
+hasNamed image p Notify = true
+hasNamed image p (Give at n) = leb n 64 && has image at n
+hasNamed image p (Store at) = leb 9 (length p) && has image at (length (dataIn p))
+hasNamed image p (SetLocks bits) = true
+hasNamed image p SetKilled = true
+
+unfoldable pub inReach : List ℕ → List ℕ → Act → Bool
+inReach image p act = leb 24 (length image) && (hasEpc image && hasNamed image p act)
+
+-- ---- the same as facts, for what writes an answer and what stores
+
 pub record Gives (image : List ℕ) (act : Act) : Type 0 where
   pub there : (at n : ℕ) → act ≡ Give at n → at + n ≤ length image
   pub few : (at n : ℕ) → act ≡ Give at n → n ≤ 64
 
--- `p` are the command's parameters; the data follow the first nine
 pub record Stores (image p : List ℕ) (act : Act) : Type 0 where
   pub fields : (at : ℕ) → act ≡ Store at → 9 ≤ length p
   pub room : (at : ℕ) → act ≡ Store at → at + length (dataIn p) ≤ length image

@@ -12,13 +12,12 @@ ghost use mathlib.Core.Bool.{true};
 ghost use Prim.Native.Nat.{_≤_};
 ghost use lib.ListN.{length};
 ghost use Rattle.tag.specs.Answers.{answer, changed, isError};
-ghost use Rattle.tag.specs.Image.{good};
 ghost use Rattle.execution.specs.Putting.{Answered};
-ghost use Rattle.execution.specs.Reach.{Gives, Stores};
+ghost use Rattle.execution.specs.Reach.{hasEpc, Gives, Stores};
 
 // The answer frame, from the image as it stands before the store.
 pub(crate) fn write_answer(image: &[u8], output: &mut [u8], act: Act) -> usize
-    requires { ⌜ (good (now image) ≡ true) × ((136 ≤ length (now output)) × Gives (now image) act) ⌝ }
+    requires { ⌜ (hasEpc (now image) ≡ true) × ((136 ≤ length (now output)) × Gives (now image) act) ⌝ }
     ensures { λ r. ⌜ Answered (answer (now (image .entry)) act) (now (output .entry)) (now (output .exit)) r ⌝ }
 {
     match act {

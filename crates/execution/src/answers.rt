@@ -14,8 +14,8 @@ ghost use Prim.Native.Nat.{_+_, _≤_};
 ghost use lib.ListN.{length};
 ghost use Rattle.frame.specs.Frames.{frameOf};
 ghost use Rattle.tag.specs.Answers.{tail, answer};
-ghost use Rattle.tag.specs.Image.{good};
 ghost use Rattle.tag.specs.declared.commands.Act.the-variants.{TagError, Notify, Give};
+ghost use Rattle.execution.specs.Reach.{hasEpc};
 ghost use Rattle.execution.specs.Putting.{Answered};
 
 // Code FF and one byte.
@@ -29,7 +29,7 @@ pub(crate) fn plain_error(output: &mut [u8], e: u8) -> usize
 
 // Code FF, one byte and the tail.
 pub(crate) fn tag_error(image: &[u8], output: &mut [u8], e: u8) -> usize
-    requires { ⌜ (good (now image) ≡ true) × (136 ≤ length (now output)) ⌝ }
+    requires { ⌜ (hasEpc (now image) ≡ true) × (136 ≤ length (now output)) ⌝ }
     ensures { λ r. ⌜ Answered (answer (now (image .entry)) (TagError e)) (now (output .entry)) (now (output .exit)) r ⌝ }
 {
     output[5] = e;
@@ -39,7 +39,7 @@ pub(crate) fn tag_error(image: &[u8], output: &mut [u8], e: u8) -> usize
 
 // RSSI, PC, EPC and the CRC-16 of these two.
 pub(crate) fn notify(image: &[u8], output: &mut [u8]) -> usize
-    requires { ⌜ (good (now image) ≡ true) × (136 ≤ length (now output)) ⌝ }
+    requires { ⌜ (hasEpc (now image) ≡ true) × (136 ≤ length (now output)) ⌝ }
     ensures { λ r. ⌜ Answered (answer (now (image .entry)) Notify) (now (output .entry)) (now (output .exit)) r ⌝ }
 {
     output[5] = byte_at(image, 23);
@@ -50,7 +50,7 @@ pub(crate) fn notify(image: &[u8], output: &mut [u8]) -> usize
 
 // The tail, then the words.
 pub(crate) fn give(image: &[u8], output: &mut [u8], at: usize, n: usize) -> usize
-    requires { ⌜ (good (now image) ≡ true) × ((136 ≤ length (now output)) × ((at + n ≤ length (now image)) × (n ≤ 64))) ⌝ }
+    requires { ⌜ (hasEpc (now image) ≡ true) × ((136 ≤ length (now output)) × ((at + n ≤ length (now image)) × (n ≤ 64))) ⌝ }
     ensures { λ r. ⌜ Answered (answer (now (image .entry)) (Give at n)) (now (output .entry)) (now (output .exit)) r ⌝ }
 {
     let next = put_tail(image, output, 5);
@@ -60,7 +60,7 @@ pub(crate) fn give(image: &[u8], output: &mut [u8], at: usize, n: usize) -> usiz
 
 // The tail, then 00: a Write, a Lock or a Kill is done.
 pub(crate) fn done(image: &[u8], output: &mut [u8], code: u8) -> usize
-    requires { ⌜ (good (now image) ≡ true) × (136 ≤ length (now output)) ⌝ }
+    requires { ⌜ (hasEpc (now image) ≡ true) × (136 ≤ length (now output)) ⌝ }
     ensures { λ r. ⌜ Answered (frameOf 0x01 code (tail (now (image .entry)) ++ (0x00 ∷ []))) (now (output .entry)) (now (output .exit)) r ⌝ }
 {
     let next = put_tail(image, output, 5);

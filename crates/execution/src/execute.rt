@@ -2,13 +2,13 @@
 use crate::acting::is_error;
 use crate::acting::store;
 use crate::acting::write_answer;
+use crate::reach::is_in_reach;
 use tag::acts::act_of;
-use tag::good::is_good;
 ghost use Rattle.execution.specs.Execution.{Execution};
 
 // How a command went: nothing was done, or an answer of this many bytes was written.
 pub enum Executed {
-    // The image is bad, or the output is shorter than an answer may be.
+    // The image lacks bytes that the command needs, or the output is shorter than an answer may be.
     Refused,
     Good(usize),
     // An answer with code FF.
@@ -22,10 +22,10 @@ pub fn execute(image: &mut [u8], output: &mut [u8], code: u8, parameters: &[u8])
     if output.len() < 136 {
         return Executed::Refused;
     }
-    if !is_good(image) {
+    let act = act_of(image, code, parameters);
+    if !is_in_reach(image, parameters, act) {
         return Executed::Refused;
     }
-    let act = act_of(image, code, parameters);
     let length = write_answer(image, output, act);
     store(image, parameters, act);
     if is_error(act) {

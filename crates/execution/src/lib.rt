@@ -3,3 +3,4 @@ mod acting;
 mod answers;
 pub mod execute;
 mod putting;
+mod reach;

@@ -9,7 +9,7 @@ ghost use lib.Seq.{sets};
 ghost use Rattle.crc.specs.Crc.{tagCrc};
 ghost use Rattle.frame.specs.Bytes.{twoBytes};
 ghost use Rattle.tag.specs.Answers.{pcAndEpc, tail};
-ghost use Rattle.tag.specs.Image.{good};
+ghost use Rattle.execution.specs.Reach.{hasEpc};
 ghost use Rattle.execution.specs.Putting.{Put};
 
 // A number as two bytes, high first.
@@ -23,8 +23,9 @@ pub(crate) fn put_number(bytes: &mut [u8], at: usize, n: usize)
 
 // The PC and the EPC: EPC word 1 and the L words that follow it.
 pub(crate) fn put_pc_and_epc(image: &[u8], output: &mut [u8], at: usize) -> usize
-    requires { ⌜ (good (now image) ≡ true) × (at + 64 ≤ length (now output)) ⌝ }
+    requires { ⌜ (hasEpc (now image) ≡ true) × (at + 64 ≤ length (now output)) ⌝ }
     ensures { λ r. ⌜ Put (pcAndEpc (now (image .entry))) at (now (output .entry)) (now (output .exit)) r ⌝ }
+    ensures { λ r. ⌜ r ≤ at + 64 ⌝ }
 {
     let place = epc_place(image);
     copy(image, place.from, place.count, output, at);
@@ -33,8 +34,9 @@ pub(crate) fn put_pc_and_epc(image: &[u8], output: &mut [u8], at: usize) -> usiz
 
 // The tail: a byte that counts the bytes of PC and EPC, and these.
 pub(crate) fn put_tail(image: &[u8], output: &mut [u8], at: usize) -> usize
-    requires { ⌜ (good (now image) ≡ true) × (at + 65 ≤ length (now output)) ⌝ }
+    requires { ⌜ (hasEpc (now image) ≡ true) × (at + 65 ≤ length (now output)) ⌝ }
     ensures { λ r. ⌜ Put (tail (now (image .entry))) at (now (output .entry)) (now (output .exit)) r ⌝ }
+    ensures { λ r. ⌜ r ≤ at + 65 ⌝ }
 {
     let place = epc_place(image);
     output[at] = place.count as u8;
@@ -43,7 +45,7 @@ pub(crate) fn put_tail(image: &[u8], output: &mut [u8], at: usize) -> usize
 
 // The CRC-16 of the PC and the EPC.
 pub(crate) fn crc_of_epc(image: &[u8]) -> u16
-    requires { ⌜ good (now image) ≡ true ⌝ }
+    requires { ⌜ hasEpc (now image) ≡ true ⌝ }
     ensures { λ r. ⌜ r ≡ tagCrc (pcAndEpc (now (image .entry))) ⌝ }
 {
     let place = epc_place(image);

@@ -2,8 +2,6 @@
 use lib.ListN.{length-set}
 use native.Mathlib.Omega.{arith}
 use Rattle.execution.proofs.Pieces.{done-closed}
-use Rattle.tag.proofs.AnswerBytes.{tail-most}
-use Rattle.tag.proofs.GoodImages.{good-facts}
 use borrow.Author.Needs.{needs}
 use Rattle.execution.proofs.answers.done.Statement.{statement}
 use Rattle.execution.proofs.answers.done.Tie as tie
@@ -12,7 +10,7 @@ put-tail-requires : tie.Need-put-tail-requires
 put-tail-requires c κs = search needs
 
 slice-write-output : tie.Need-slice-write-output
-slice-write-output c = omega (arith, c .before .before .put-tail .ensures .next-is, tail-most (c .before .before .before .before .before .before .args .image .now) (good-facts (c .before .before .before .before .before .before .args .image .now) (c .before .before .before .before .before .before .pre .0)))
+slice-write-output c = omega (arith, c .before .before .put-tail .ensures .1)
 
 sub-close : tie.Need-sub-close
 sub-close c = search needs
@@ -24,7 +22,7 @@ same-length : tie.Need-same-length
 same-length c = omega (arith, length-set (c .before .before .before .before .before .before .put-tail .last .1 .0) (c .before .before .before .before .before .before .put-tail .result) 0)
 
 returns : tie.Need-returns
-returns c = done-closed _ (c .before .before .before .before .before .before .before .before .before .before .pre .1) _ (c .before .before .before .before .before .before .before .before .before .before .pre .0) _ _ _ (c .before .before .before .before .before .before .put-tail .ensures) _ _ (c .before .before .close .ensures)
+returns c = done-closed _ (c .before .before .before .before .before .before .before .before .before .before .pre .1) _ _ _ _ (c .before .before .before .before .before .before .put-tail .ensures .0) (c .before .before .before .before .before .before .put-tail .ensures .1) _ _ (c .before .before .close .ensures)
 
 pub done-spec : {M : Type 1} → statement M
 done-spec =

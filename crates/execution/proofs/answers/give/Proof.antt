@@ -1,8 +1,6 @@
 -- `give` meets its contract: the tail and the named bytes of the image, and the frame round them.
 use native.Mathlib.Omega.{arith}
 use Rattle.execution.proofs.Pieces.{give-closed}
-use Rattle.tag.proofs.AnswerBytes.{tail-most}
-use Rattle.tag.proofs.GoodImages.{good-facts}
 use borrow.Author.Needs.{needs}
 use Rattle.execution.proofs.answers.give.Statement.{statement}
 use Rattle.execution.proofs.answers.give.Tie as tie
@@ -14,7 +12,7 @@ copy-requires : tie.Need-copy-requires
 copy-requires c κs = search needs
 
 add-close : tie.Need-add-close
-add-close c = omega (arith, c .before .before .before .before .before .before .before .put-tail .ensures .next-is, tail-most (c .before .before .before .before .before .before .before .before .before .before .before .args .image .now) (good-facts (c .before .before .before .before .before .before .before .before .before .before .before .args .image .now) (c .before .before .before .before .before .before .before .before .before .before .before .pre .0)))
+add-close c = omega (arith, c .before .before .before .before .before .before .before .put-tail .ensures .1)
 
 sub-close : tie.Need-sub-close
 sub-close c = search needs
@@ -26,7 +24,7 @@ same-length : tie.Need-same-length
 same-length c = search needs
 
 returns : tie.Need-returns
-returns c = give-closed _ (c .before .before .before .before .before .before .before .before .before .before .before .before .before .before .pre .1 .0) _ (c .before .before .before .before .before .before .before .before .before .before .before .before .before .before .pre .0) _ _ (c .before .before .before .before .before .before .before .before .before .before .before .before .before .before .pre .1 .1 .0) (c .before .before .before .before .before .before .before .before .before .before .before .before .before .before .pre .1 .1 .1) _ _ (c .before .before .before .before .before .before .before .before .before .before .put-tail .ensures) _ (c .before .before .before .before .before .before .copy .ensures) _ _ (c .before .before .close .ensures)
+returns c = give-closed _ (c .before .before .before .before .before .before .before .before .before .before .before .before .before .before .pre .1 .0) _ _ _ (c .before .before .before .before .before .before .before .before .before .before .before .before .before .before .pre .1 .1 .0) (c .before .before .before .before .before .before .before .before .before .before .before .before .before .before .pre .1 .1 .1) _ _ (c .before .before .before .before .before .before .before .before .before .before .put-tail .ensures .0) (c .before .before .before .before .before .before .before .before .before .before .put-tail .ensures .1) _ (c .before .before .before .before .before .before .copy .ensures) _ _ (c .before .before .close .ensures)
 
 pub give-spec : {M : Type 1} → statement M
 give-spec =

@@ -2,8 +2,6 @@
 use lib.ListN.{length-set}
 use native.Mathlib.Omega.{arith}
 use Rattle.execution.proofs.Pieces.{notify-closed}
-use Rattle.tag.proofs.AnswerBytes.{pc-and-epc-most}
-use Rattle.tag.proofs.GoodImages.{good-facts}
 use borrow.Author.Needs.{needs}
 use Rattle.execution.proofs.answers.notify.Statement.{statement}
 use Rattle.execution.proofs.answers.notify.Tie as tie
@@ -24,7 +22,7 @@ cast-put-number : tie.Need-cast-put-number
 cast-put-number c = search needs
 
 put-number-requires : tie.Need-put-number-requires
-put-number-requires c κs = omega (arith, c .before .before .before .before .put-pc-and-epc .ensures .next-is, pc-and-epc-most (c .before .before .before .before .before .before .before .before .before .args .image .now) (good-facts (c .before .before .before .before .before .before .before .before .before .args .image .now) (c .before .before .before .before .before .before .before .before .before .pre .0)), length-set (c .before .before .before .before .before .before .before .before .before .args .output .now) 5 (c .before .before .before .before .before .before .byte-at .result))
+put-number-requires c κs = omega (arith, c .before .before .before .before .put-pc-and-epc .ensures .1, length-set (c .before .before .before .before .before .before .before .before .before .args .output .now) 5 (c .before .before .before .before .before .before .byte-at .result))
 
 sub-close : tie.Need-sub-close
 sub-close c = search needs
@@ -36,7 +34,7 @@ same-length : tie.Need-same-length
 same-length c = omega (arith, length-set (c .before .before .before .before .before .before .before .before .before .before .before .before .before .before .before .before .args .output .now) 5 (c .before .before .before .before .before .before .before .before .before .before .before .before .before .byte-at .result))
 
 returns : tie.Need-returns
-returns c = notify-closed _ (c .before .before .before .before .before .before .before .before .before .before .before .before .before .before .before .before .pre .1) _ (c .before .before .before .before .before .before .before .before .before .before .before .before .before .before .before .before .pre .0) _ (c .before .before .before .before .before .before .before .before .before .before .before .before .before .byte-at .ensures) _ _ (c .before .before .before .before .before .before .before .before .before .before .before .put-pc-and-epc .ensures) _ (c .before .before .before .before .before .before .before .crc-of-epc .ensures) _ (c .before .before .before .before .before .before .put-number .ensures) _ _ (c .before .before .close .ensures)
+returns c = notify-closed _ (c .before .before .before .before .before .before .before .before .before .before .before .before .before .before .before .before .pre .1) _ _ (c .before .before .before .before .before .before .before .before .before .before .before .before .before .byte-at .ensures) _ _ (c .before .before .before .before .before .before .before .before .before .before .before .put-pc-and-epc .ensures .0) (c .before .before .before .before .before .before .before .before .before .before .before .put-pc-and-epc .ensures .1) _ (c .before .before .before .before .before .before .before .crc-of-epc .ensures) _ (c .before .before .before .before .before .before .put-number .ensures) _ _ (c .before .before .close .ensures)
 
 pub notify-spec : {M : Type 1} → statement M
 notify-spec =

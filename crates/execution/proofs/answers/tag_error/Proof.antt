@@ -22,7 +22,7 @@ same-length : tie.Need-same-length
 same-length c = omega (arith, length-set (c .before .before .before .before .before .before .before .before .before .before .args .output .now) 5 (c .before .before .before .before .before .before .before .before .before .before .args .e))
 
 returns : tie.Need-returns
-returns c = tag-error-closed _ (c .before .before .before .before .before .before .before .before .before .before .pre .1) _ (c .before .before .before .before .before .before .before .before .before .before .pre .0) _ _ _ (c .before .before .before .before .before .before .put-tail .ensures) _ _ (c .before .before .close .ensures)
+returns c = tag-error-closed _ (c .before .before .before .before .before .before .before .before .before .before .pre .1) _ _ _ _ (c .before .before .before .before .before .before .put-tail .ensures .0) (c .before .before .before .before .before .before .put-tail .ensures .1) _ _ (c .before .before .close .ensures)
 
 pub tag-error-spec : {M : Type 1} → statement M
 tag-error-spec =

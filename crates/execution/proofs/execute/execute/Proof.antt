@@ -1,31 +1,46 @@
--- `execute` meets its contract: the tests and the verdict, then the answer, then the store.
-use Rattle.execution.proofs.Executions.{refused-short, refused-bad, executed-error, executed-good}
-use Rattle.execution.proofs.Reaches.{good-least, gives-judged, stores-judged}
+-- `execute` meets its contract: the verdict and the tests, then the answer, then the store.
+use Rattle.execution.proofs.Executions.{refused-short, refused-out, executed-error, executed-good}
+use Rattle.execution.proofs.Reaches.{reach-least, reach-epc, reach-gives, reach-stores}
 use Rattle.frame.proofs.Tests.{holds, fails, not-holds, not-fails}
 use borrow.Author.Needs.{needs}
 use Rattle.execution.proofs.execute.execute.Statement.{statement}
 use Rattle.execution.proofs.execute.execute.Tie as tie
+use Rattle.execution.proofs.execute.execute.Reads as reads
+use Rattle.execution.proofs.execute.execute.Lts as lts
+use Rattle.execution.proofs.acting.is_error.Reads as is-error-reads
+use Rattle.execution.proofs.acting.store.Reads as store-reads
+use Rattle.execution.proofs.acting.write_answer.Reads as write-answer-reads
+use Rattle.execution.proofs.reach.is_in_reach.Reads as is-in-reach-reads
+use Rattle.tag.proofs.acts.act_of.Reads as act-of-reads
 
 returns : tie.Need-returns
 returns c = refused-short _ _ _ _ (c .if1 .taken)
 
-is-good-requires : tie.Need-is-good-requires
-is-good-requires c κs = search needs
+act-of-requires : tie.Need-act-of-requires
+act-of-requires c κs = search needs
+
+is-in-reach-requires : tie.Need-is-in-reach-requires
+is-in-reach-requires c κs = search needs
 
 same-length : tie.Need-same-length
 same-length c = search needs
 
 returns-2 : tie.Need-returns-2
-returns-2 c = refused-bad _ _ _ _ (c .before .before .before .if1 .left) (not-holds (c .if2 .taken) (c .before .is-good .ensures))
-
-act-of-requires : tie.Need-act-of-requires
-act-of-requires c κs = search needs
+returns-2 c =
+    let judged = c .before .before .before in
+    refused-out _ _ _ _ (judged .before .before .if1 .left) _ (judged .act-of .ensures) (not-holds (c .if2 .taken) (c .before .is-in-reach .ensures))
 
 write-answer-requires : tie.Need-write-answer-requires
-write-answer-requires c κs = ((not-fails (c .before .before .before .before .if2 .left) (c .before .before .before .before .before .is-good .ensures)), (search needs, gives-judged _ (not-fails (c .before .before .before .before .if2 .left) (c .before .before .before .before .before .is-good .ensures)) _ _ _ (c .before .before .act-of .ensures)))
+write-answer-requires c κs =
+    let tested = c .before .before in
+    let reached = not-fails (tested .if2 .left) (tested .before .is-in-reach .ensures) in
+    (reach-epc _ _ _ reached, (tested .before .before .before .before .before .if1 .left, reach-gives _ _ _ reached))
 
 store-requires : tie.Need-store-requires
-store-requires c κs = (good-least _ (not-fails (c .before .before .before .before .before .before .before .before .if2 .left) (c .before .before .before .before .before .before .before .before .before .is-good .ensures)), stores-judged _ (not-fails (c .before .before .before .before .before .before .before .before .if2 .left) (c .before .before .before .before .before .before .before .before .before .is-good .ensures)) _ _ _ (c .before .before .before .before .before .before .act-of .ensures))
+store-requires c κs =
+    let tested = c .before .before .before .before .before .before in
+    let reached = not-fails (tested .if2 .left) (tested .before .is-in-reach .ensures) in
+    (reach-least _ _ _ reached, reach-stores _ _ _ reached)
 
 is-error-requires : tie.Need-is-error-requires
 is-error-requires c κs = search needs
@@ -37,7 +52,14 @@ same-length-3 : tie.Need-same-length-3
 same-length-3 c = search needs
 
 returns-3 : tie.Need-returns-3
-returns-3 c = executed-error _ _ _ _ (c .before .before .before .before .before .before .before .before .before .before .before .before .before .before .before .before .if1 .left) (not-fails (c .before .before .before .before .before .before .before .before .before .before .before .before .before .if2 .left) (c .before .before .before .before .before .before .before .before .before .before .before .before .before .before .is-good .ensures)) _ (c .before .before .before .before .before .before .before .before .before .before .before .act-of .ensures) _ _ _ (c .before .before .before .before .before .before .before .before .write-answer .ensures) (c .before .before .before .before .store .ensures) (holds (c .if3 .taken) (c .before .is-error .ensures))
+returns-3 c =
+    let stored = c .before .before .before .before in
+    let wrote = stored .before .before .before .before in
+    let tested = wrote .before .before .before in
+    let judged = tested .before .before .before in
+    executed-error _ _ _ _ (judged .before .before .if1 .left) _ (judged .act-of .ensures)
+    (not-fails (tested .if2 .left) (tested .before .is-in-reach .ensures)) _ _ _ (wrote .write-answer .ensures) (stored .store .ensures)
+    (holds (c .if3 .taken) (c .before .is-error .ensures))
 
 same-length-4 : tie.Need-same-length-4
 same-length-4 c = search needs
@@ -46,17 +68,24 @@ same-length-5 : tie.Need-same-length-5
 same-length-5 c = search needs
 
 returns-4 : tie.Need-returns-4
-returns-4 c = executed-good _ _ _ _ (c .before .before .before .before .before .before .before .before .before .before .before .before .before .before .before .before .if1 .left) (not-fails (c .before .before .before .before .before .before .before .before .before .before .before .before .before .if2 .left) (c .before .before .before .before .before .before .before .before .before .before .before .before .before .before .is-good .ensures)) _ (c .before .before .before .before .before .before .before .before .before .before .before .act-of .ensures) _ _ _ (c .before .before .before .before .before .before .before .before .write-answer .ensures) (c .before .before .before .before .store .ensures) (fails (c .if3 .left) (c .before .is-error .ensures))
+returns-4 c =
+    let stored = c .before .before .before .before in
+    let wrote = stored .before .before .before .before in
+    let tested = wrote .before .before .before in
+    let judged = tested .before .before .before in
+    executed-good _ _ _ _ (judged .before .before .if1 .left) _ (judged .act-of .ensures)
+    (not-fails (tested .if2 .left) (tested .before .is-in-reach .ensures)) _ _ _ (wrote .write-answer .ensures) (stored .store .ensures)
+    (fails (c .if3 .left) (c .before .is-error .ensures))
 
 pub execute-spec : {M : Type 1} → statement M
 execute-spec =
     tie.close
     (tie.spec
     returns
-    is-good-requires
+    act-of-requires
+    is-in-reach-requires
     same-length
     returns-2
-    act-of-requires
     write-answer-requires
     store-requires
     is-error-requires

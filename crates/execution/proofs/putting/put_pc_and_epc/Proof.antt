@@ -1,5 +1,6 @@
--- `put_pc_and_epc` meets its contract: a good image has room for L words behind the PC, so all are copied.
-use Rattle.execution.proofs.Tails.{epc-put}
+-- `put_pc_and_epc` meets its contract: the image has L words behind the PC, so all are copied.
+use native.Mathlib.Omega.{arith}
+use Rattle.execution.proofs.Tails.{epc-most, epc-put}
 use borrow.Author.Needs.{needs}
 use Rattle.execution.proofs.putting.put_pc_and_epc.Statement.{statement}
 use Rattle.execution.proofs.putting.put_pc_and_epc.Tie as tie
@@ -20,8 +21,10 @@ returns : tie.Need-returns
 returns c =
     let done = c .before .before .before in
     let placed = done .before .before in
-    let start = placed .before .before .before in
-    epc-put _ (start .pre .0) _ (placed .epc-place .ensures) _ _ (start .pre .1) _ (done .copy .ensures)
+    let start = placed .before .before .before in (
+      epc-put _ (start .pre .0) _ (placed .epc-place .ensures) _ _ (start .pre .1) _ (done .copy .ensures),
+      omega (arith, epc-most _ (start .pre .0) _ (placed .epc-place .ensures)),
+    )
 
 pub put-pc-and-epc-spec : {M : Type 1} → statement M
 put-pc-and-epc-spec =

@@ -24,13 +24,15 @@ put-pc-and-epc-requires : tie.Need-put-pc-and-epc-requires
 put-pc-and-epc-requires c κs = (search needs, simp length-set (omega arith))
 
 same-length : tie.Need-same-length
-same-length c = length-put _ _ _ _ _ (c .before .before .put-pc-and-epc .ensures) ∙ simp length-set
+same-length c = length-put _ _ _ _ _ (c .before .before .put-pc-and-epc .ensures .0) ∙ simp length-set
 
 returns : tie.Need-returns
 returns c =
     let done = c .before .before in
-    let placed = done .before .before .before in
-    tail-put _ (placed .before .before .before .pre .0) _ (placed .epc-place .ensures) _ _ _ _ (done .put-pc-and-epc .ensures)
+    let placed = done .before .before .before in (
+      tail-put _ (placed .before .before .before .pre .0) _ (placed .epc-place .ensures) _ _ _ _ (done .put-pc-and-epc .ensures .0),
+      omega (arith, done .put-pc-and-epc .ensures .1),
+    )
 
 pub put-tail-spec : {M : Type 1} → statement M
 put-tail-spec =
