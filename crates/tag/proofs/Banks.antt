@@ -1,12 +1,11 @@
 -- Laws of banks: their fields are two-byte numbers, when a bank ends by a limit, and the tests of a good image's banks.
-use Prim.Native.Nat.{ℕ, _+_, _*_, _-_, _/_, _<_, _≤_}
+use Prim.Native.Nat.{ℕ, _+_, _*_, _<_, _≤_}
 use mathlib.Core.Bool.{true, false, and-true}
 use mathlib.Core.Path.{_≡_, sym}
 use Rattle.frame.proofs.Picks.{by-test}
 use Rattle.frame.specs.Bytes.{all}
 use borrow.Author.Tests.{le-leb, lt-leb, eq-eqb}
 use lib.Dec.{eqb, leb}
-use native.Mathlib.Omega.{arith}
 use Rattle.tag.specs.Bounds.{SmallBank, Small}
 use Rattle.tag.specs.Image.{bankOf, wordAt, endOf, goodBanks}
 use Rattle.tag.specs.declared.image.Bank.{Bank}
@@ -20,18 +19,13 @@ small-bank v bank s =
     (λ _. by-test SmallBank (eqb bank 2) (λ _. s .tid-small) (λ _. s .user-small)))
 
 module _ (b : Bank) (limit : ℕ) where
-  -- the bank alone is longer than the limit
-  pub too-long : limit / 2 < b .words → false ≡ leb (endOf b) limit
+  pub ends-late : limit < b .offset + 2 * b .words → false ≡ leb (endOf b) limit
   unfolding endOf wordAt
-  too-long h = sym (lt-leb (b .offset + 2 * b .words) limit (omega arith))
+  ends-late h = sym (lt-leb (b .offset + 2 * b .words) limit h)
 
-  pub too-far : limit - 2 * b .words < b .offset → false ≡ leb (endOf b) limit
+  pub ends-in-time : b .offset + 2 * b .words ≤ limit → true ≡ leb (endOf b) limit
   unfolding endOf wordAt
-  too-far h = sym (lt-leb (b .offset + 2 * b .words) limit (omega arith))
-
-  pub in-time : b .words ≤ limit / 2 → b .offset ≤ limit - 2 * b .words → true ≡ leb (endOf b) limit
-  unfolding endOf wordAt
-  in-time h k = sym (le-leb (b .offset + 2 * b .words) limit (omega arith))
+  ends-in-time h = sym (le-leb (b .offset + 2 * b .words) limit h)
 
 -- the tests of the banks come down to the last where all others hold
 pub last-bank :

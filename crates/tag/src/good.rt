@@ -4,16 +4,15 @@ use crate::image::View;
 use crate::image::whole_view;
 ghost use mathlib.Core.Path.{_≡_};
 ghost use lib.Dec.{leb};
+ghost use Rattle.tag.specs.Bounds.{SmallBank, Small};
 ghost use Rattle.tag.specs.Image.{endOf, goodHeader, goodBanks, goodTag, good};
 
-// Whether a bank's end is at most `limit`, tested so that no sum can wrap.
+// Whether a bank's end is at most `limit`. Both fields come from two bytes each, so the sum does not wrap.
 fn ends_by(b: Bank, limit: usize) -> bool
+    requires { ⌜ SmallBank b ⌝ }
     ensures { λ r. ⌜ r ≡ leb (endOf b) limit ⌝ }
 {
-    if limit / 2 < b.words {
-        return false;
-    }
-    if limit - 2 * b.words < b.offset {
+    if limit < b.offset + 2 * b.words {
         return false;
     }
     true
@@ -38,6 +37,7 @@ fn is_good_header(v: View) -> bool
 }
 
 fn is_good_banks(v: View) -> bool
+    requires { ⌜ Small v ⌝ }
     ensures { λ r. ⌜ r ≡ goodBanks v ⌝ }
 {
     let reserved = v.reserved;

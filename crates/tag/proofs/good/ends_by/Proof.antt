@@ -1,23 +1,21 @@
--- `ends_by` meets its contract: halves and differences are compared in the place of the sum.
+-- `ends_by` meets its contract: the sum that it compares is the bank's end.
 use borrow.Author.Needs.{needs}
-use Rattle.tag.proofs.Banks.{too-long, too-far, in-time}
+use native.Mathlib.Omega.{arith}
+use Rattle.tag.proofs.Banks.{ends-late, ends-in-time}
 use Rattle.tag.proofs.good.ends_by.Statement.{statement}
 use Rattle.tag.proofs.good.ends_by.Tie as tie
 
+mul-if1 : tie.Need-mul-if1
+mul-if1 c = omega (arith, c .before .pre .words-small)
+
+add-if1 : tie.Need-add-if1
+add-if1 c = omega (arith, c .before .before .pre .words-small, c .before .before .pre .offset-small)
+
 returns : tie.Need-returns
-returns c = too-long _ _ (c .if1 .taken)
-
-mul-if2 : tie.Need-mul-if2
-mul-if2 c = search needs
-
-sub-if2 : tie.Need-sub-if2
-sub-if2 c = search needs
+returns c = ends-late _ _ (c .if1 .taken)
 
 returns-2 : tie.Need-returns-2
-returns-2 c = too-far _ _ (c .if2 .taken)
-
-returns-3 : tie.Need-returns-3
-returns-3 c = in-time _ _ (c .before .before .before .if1 .left) (c .if2 .left)
+returns-2 c = ends-in-time _ _ (c .if1 .left)
 
 pub ends-by-spec : {M : Type 1} → statement M
-ends-by-spec = tie.close (tie.spec returns mul-if2 sub-if2 returns-2 returns-3)
+ends-by-spec = tie.close (tie.spec mul-if1 add-if1 returns returns-2)
