@@ -85,8 +85,8 @@ fn mix(size: usize) -> Vec<u8> {
     repeated(&round, size)
 }
 
-/// The same without the inventory. rustc makes a table of 256 words of the model's bitwise CRC, so
-/// that a mix with it compares two ways to work a CRC besides all else.
+/// The same without the inventory: how well a compiler treats the one loop of the CRC is not to hide
+/// the rest.
 fn mix_without_crc(size: usize) -> Vec<u8> {
     repeated(&without_crc(), size)
 }
