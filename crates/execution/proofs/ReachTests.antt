@@ -1,34 +1,21 @@
--- The tests of what a command needs of the image, one by one: by a difference in the place of a sum, and by the act told apart.
-use Prim.Native.Nat.{ℕ, _+_, _-_, _≤_, _<_}
+-- The tests of what a command needs of the image, one by one.
+use Prim.Native.Nat.{ℕ, _-_, _≤_, _<_}
 use borrow.Author.Tests.{le-leb, lt-leb}
 use lib.ListN.{length, length-drop}
 use mathlib.Core.Bool.{Bool, true, false}
 use mathlib.Core.List.{List}
-use mathlib.Core.Path.{_≡_, sym, _∙_}
-use native.Mathlib.Omega.{arith}
+use mathlib.Core.Path.{_≡_, _∙_}
+use Rattle.frame.specs.Copying.{reaches}
 use Rattle.tag.specs.Commands.{dataIn}
-use Rattle.tag.specs.Image.{view, wordAt, epcLength}
+use Rattle.tag.specs.Image.{wordAt, epcLength}
 use Rattle.tag.specs.Places.{EpcPlace}
 use Rattle.tag.specs.declared.commands.Act.{Act}
 use Rattle.tag.specs.declared.commands.Act.the-variants.{Give, Store}
 use Rattle.tag.specs.declared.image.Place.{Place}
-use Rattle.execution.specs.Reach.{has, hasEpc, hasNamed, inReach}
-
-module _ (bytes : List ℕ) (at n : ℕ) where
-  pub starts-behind : length bytes < at → false ≡ has bytes at n
-  unfolding has
-  starts-behind h = sym (lt-leb (at + n) (length bytes) (omega arith))
-
-  pub ends-behind : at ≤ length bytes → length bytes - at < n → false ≡ has bytes at n
-  unfolding has
-  ends-behind from h = sym (lt-leb (at + n) (length bytes) (omega arith))
-
-  pub ends-in-time : at ≤ length bytes → n ≤ length bytes - at → true ≡ has bytes at n
-  unfolding has
-  ends-in-time from h = sym (le-leb (at + n) (length bytes) (omega arith))
+use Rattle.execution.specs.Reach.{hasEpc, hasNamed, inReach}
 
 -- the place of PC and EPC, read by whatever means
-pub epc-had : (image : List ℕ) (p : Place) → EpcPlace image p → has image (p .from) (p .count) ≡ hasEpc image
+pub epc-had : (image : List ℕ) (p : Place) → EpcPlace image p → reaches image (p .from) (p .count) ≡ hasEpc image
 unfolding hasEpc wordAt epcLength
 epc-had image p read = simp (read .from-is, read .count-is)
 
@@ -38,7 +25,7 @@ module _ (image p : List ℕ) (act : Act) where
     unfolding hasNamed
     given-long h = simp (told, lt-leb n 64 h)
 
-    pub given-there : (r : Bool) → n ≤ 64 → r ≡ has image at n → r ≡ hasNamed image p act
+    pub given-there : (r : Bool) → n ≤ 64 → r ≡ reaches image at n → r ≡ hasNamed image p act
     unfolding hasNamed
     given-there r few e = e ∙ simp (told, le-leb n 64 few)
 
@@ -47,7 +34,7 @@ module _ (image p : List ℕ) (act : Act) where
     unfolding hasNamed
     stored-short h = simp (told, lt-leb 9 (length p) h)
 
-    pub stored-there : (r : Bool) → 9 ≤ length p → r ≡ has image at (length p - 9) → r ≡ hasNamed image p act
+    pub stored-there : (r : Bool) → 9 ≤ length p → r ≡ reaches image at (length p - 9) → r ≡ hasNamed image p act
     unfolding hasNamed dataIn
     stored-there r fields e = e ∙ simp (told, le-leb 9 (length p) fields, length-drop 9 p)
 

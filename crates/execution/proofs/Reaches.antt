@@ -7,7 +7,9 @@ use mathlib.Core.Bool.{true, _&&_}
 use mathlib.Core.List.{List}
 use mathlib.Core.Path.{_≡_, refl}
 use native.Mathlib.Omega.{arith}
+use Rattle.frame.proofs.Copies.{there-reaches, reaches-there}
 use Rattle.frame.proofs.Tests.{and-left, and-right, and-both}
+use Rattle.frame.specs.Copying.{reaches}
 use Rattle.tag.proofs.Cases.{Reads, Writes, placeOf, act-cases}
 use Rattle.tag.proofs.GoodImages.{Good, good-facts}
 use Rattle.tag.proofs.Places.{Inside, inside, data-length}
@@ -15,15 +17,7 @@ use Rattle.tag.specs.Commands.{dataIn, countIn, actOf}
 use Rattle.tag.specs.Image.{good, view, wordAt, epcLength}
 use Rattle.tag.specs.declared.commands.Act.{Act}
 use Rattle.tag.specs.declared.commands.Act.the-variants.{PlainError, TagError, Notify, Give, Store, SetLocks, SetKilled}
-use Rattle.execution.specs.Reach.{has, hasEpc, hasNamed, inReach, Gives, Stores}
-
-pub there-has : (bytes : List ℕ) (at n : ℕ) → at + n ≤ length bytes → has bytes at n ≡ true
-unfolding has
-there-has bytes at n h = le-leb (at + n) (length bytes) h
-
-pub has-there : (bytes : List ℕ) (at n : ℕ) → has bytes at n ≡ true → at + n ≤ length bytes
-unfolding has
-has-there bytes at n h = leb-true (at + n) (length bytes) h
+use Rattle.execution.specs.Reach.{hasEpc, hasNamed, inReach, Gives, Stores}
 
 -- ---- an image in whose reach an act is
 
@@ -46,16 +40,16 @@ module _ (image p : List ℕ) (act : Act) (h : inReach image p act ≡ true) whe
   unfolding hasNamed
   reach-gives =
       record {
-        there = λ at n e. has-there image at n (and-right (leb n 64) (has image at n) (named (Give at n) e));
-        few = λ at n e. leb-true n 64 (and-left (leb n 64) (has image at n) (named (Give at n) e));
+        there = λ at n e. reaches-there image at n (and-right (leb n 64) (reaches image at n) (named (Give at n) e));
+        few = λ at n e. leb-true n 64 (and-left (leb n 64) (reaches image at n) (named (Give at n) e));
       }
 
   pub reach-stores : Stores image p act
   unfolding hasNamed
   reach-stores =
       record {
-        fields = λ at e. leb-true 9 (length p) (and-left (leb 9 (length p)) (has image at (length (dataIn p))) (named (Store at) e));
-        room = λ at e. has-there image at (length (dataIn p)) (and-right (leb 9 (length p)) (has image at (length (dataIn p))) (named (Store at) e));
+        fields = λ at e. leb-true 9 (length p) (and-left (leb 9 (length p)) (reaches image at (length (dataIn p))) (named (Store at) e));
+        room = λ at e. reaches-there image at (length (dataIn p)) (and-right (leb 9 (length p)) (reaches image at (length (dataIn p))) (named (Store at) e));
       }
 
 -- ---- a good image
@@ -67,7 +61,7 @@ module _ (image : List ℕ) (g : Good (view image)) where
 
   epc : hasEpc image ≡ true
   unfolding hasEpc wordAt epcLength view
-  epc = there-has image _ _ (omega (arith, g .epc-fits, g .tid-place, g .user-place, g .last-end, g .total-lent))
+  epc = there-reaches image _ _ (omega (arith, g .epc-fits, g .tid-place, g .user-place, g .last-end, g .total-lent))
 
   module _ (p : List ℕ) where
     read-named : Reads image p → hasNamed image p (Give (placeOf image p) (2 * countIn p)) ≡ true
@@ -75,14 +69,14 @@ module _ (image : List ℕ) (g : Good (view image)) where
     read-named reads =
         let home : Inside image p = inside image p g (reads .aim) in
         and-both _ _ (le-leb (2 * countIn p) 64 (omega (arith, reads .aim .count-most)))
-        (there-has image (placeOf image p) (2 * countIn p) (omega (arith, home .to)))
+        (there-reaches image (placeOf image p) (2 * countIn p) (omega (arith, home .to)))
 
     write-named : Writes image p → hasNamed image p (Store (placeOf image p)) ≡ true
     unfolding hasNamed
     write-named writes =
         let home : Inside image p = inside image p g (writes .aim) in
         and-both _ _ (le-leb 9 (length p) (omega (arith, writes .fields)))
-        (there-has image (placeOf image p) (length (dataIn p)) (omega (arith, home .to, data-length image p writes)))
+        (there-reaches image (placeOf image p) (length (dataIn p)) (omega (arith, home .to, data-length image p writes)))
 
     command-named : (code : ℕ) → hasNamed image p (actOf image code p) ≡ true
     unfolding hasNamed

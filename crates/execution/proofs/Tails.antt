@@ -1,6 +1,5 @@
 -- The PC and the EPC of an image that has them: at most 64 bytes, and the tail is these behind their count.
 use Prim.Native.Nat.{ℕ, suc, _+_, _*_, _/_, _-_, _≤_}
-use borrow.Author.Tests.{leb-true}
 use lib.ListN.{length, take, drop, set}
 use lib.Seq.{sets}
 use mathlib.Core.Bool.{true}
@@ -8,7 +7,7 @@ use mathlib.Core.List.{List}
 use mathlib.Core.Path.{_≡_, refl, ap, _∙_}
 use native.Mathlib.Numerals.{add-one}
 use native.Mathlib.Omega.{arith}
-use Rattle.frame.proofs.Copies.{length-part-inside, copied-is}
+use Rattle.frame.proofs.Copies.{reaches-there, length-part-inside, copied-is}
 use Rattle.frame.specs.Bytes.{part}
 use Rattle.frame.specs.Copying.{copied}
 use Rattle.tag.specs.Answers.{pcAndEpc, tail}
@@ -17,7 +16,7 @@ use Rattle.tag.specs.Places.{EpcPlace}
 use Rattle.tag.specs.declared.image.Place.{Place}
 use Rattle.tag.specs.declared.image.View.{View}
 use Rattle.execution.specs.Putting.{Put}
-use Rattle.execution.specs.Reach.{has, hasEpc}
+use Rattle.execution.specs.Reach.{hasEpc}
 
 -- where the PC stands, and how many bytes it has with the EPC
 abbrev pub epcFrom : View → ℕ
@@ -28,8 +27,8 @@ epcBytes v = 2 + 2 * (v .pc / 2048)
 
 module _ (image : List ℕ) (h : hasEpc image ≡ true) where
   there : epcFrom (view image) + epcBytes (view image) ≤ length image
-  unfolding hasEpc has wordAt epcLength
-  there = leb-true (epcFrom (view image) + epcBytes (view image)) (length image) h
+  unfolding hasEpc wordAt epcLength
+  there = reaches-there image (epcFrom (view image)) (epcBytes (view image)) h
 
   epc-is : part image (epcFrom (view image)) (epcBytes (view image)) ≡ pcAndEpc image
   unfolding pcAndEpc epcLength wordAt

@@ -5,18 +5,15 @@ use mathlib.Core.List.{List}
 use mathlib.Core.Path.{_≡_}
 use lib.Dec.{leb}
 use lib.ListN.{length}
+use Rattle.frame.specs.Copying.{reaches}
 use Rattle.tag.specs.Commands.{dataIn}
 use Rattle.tag.specs.Image.{view, wordAt, epcLength}
 use Rattle.tag.specs.declared.commands.Act.{Act}
 use Rattle.tag.specs.declared.commands.Act.the-variants.{PlainError, TagError, Notify, Give, Store, SetLocks, SetKilled}
 
--- the n bytes from `at` on are there
-unfoldable pub has : List ℕ → ℕ → ℕ → Bool
-has bytes at n = leb (at + n) (length bytes)
-
 -- the PC and the L words behind it are there
 unfoldable pub hasEpc : List ℕ → Bool
-hasEpc image = has image (wordAt (view image .epc) 1) (2 + 2 * epcLength (view image .pc))
+hasEpc image = reaches image (wordAt (view image .epc) 1) (2 + 2 * epcLength (view image .pc))
 
 -- the bytes of a Read, no more than 32 words, are there; so is the room for a Write's data, which follow the first nine of the
 -- parameters `p`
@@ -24,8 +21,8 @@ unfoldable pub hasNamed : List ℕ → List ℕ → Act → Bool
 hasNamed image p (PlainError e) = true
 hasNamed image p (TagError e) = true
 hasNamed image p Notify = true
-hasNamed image p (Give at n) = leb n 64 && has image at n
-hasNamed image p (Store at) = leb 9 (length p) && has image at (length (dataIn p))
+hasNamed image p (Give at n) = leb n 64 && reaches image at n
+hasNamed image p (Store at) = leb 9 (length p) && reaches image at (length (dataIn p))
 hasNamed image p (SetLocks bits) = true
 hasNamed image p SetKilled = true
 

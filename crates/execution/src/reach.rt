@@ -1,28 +1,16 @@
 // Whether the image has all that a command needs of it. Where it is good, it has; `execute` tests no more than this, so that it stands
 // by itself and a call does not test the whole image twice.
+use frame::copying::reaches;
 use tag::commands::Act;
 use tag::image::epc_place;
 ghost use mathlib.Core.Path.{_≡_};
-ghost use Rattle.execution.specs.Reach.{has, hasEpc, hasNamed, inReach};
-
-// Tested by subtraction, so that no sum can wrap.
-fn is_there(bytes: &[u8], at: usize, n: usize) -> bool
-    ensures { λ r. ⌜ r ≡ has (now (bytes .entry)) at n ⌝ }
-{
-    if bytes.len() < at {
-        return false;
-    }
-    if bytes.len() - at < n {
-        return false;
-    }
-    true
-}
+ghost use Rattle.execution.specs.Reach.{hasEpc, hasNamed, inReach};
 
 fn is_epc_there(image: &[u8]) -> bool
     ensures { λ r. ⌜ r ≡ hasEpc (now (image .entry)) ⌝ }
 {
     let place = epc_place(image);
-    is_there(image, place.from, place.count)
+    reaches(image, place.from, place.count)
 }
 
 fn is_named_there(image: &[u8], parameters: &[u8], act: Act) -> bool
@@ -33,13 +21,13 @@ fn is_named_there(image: &[u8], parameters: &[u8], act: Act) -> bool
             if 64 < length {
                 return false;
             }
-            is_there(image, at, length)
+            reaches(image, at, length)
         }
         Act::Store { at } => {
             if parameters.len() < 9 {
                 return false;
             }
-            is_there(image, at, parameters.len() - 9)
+            reaches(image, at, parameters.len() - 9)
         }
         Act::PlainError(_) => true,
         Act::TagError(_) => true,

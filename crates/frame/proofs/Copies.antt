@@ -1,8 +1,10 @@
--- Laws of copying: where the bytes are not all there, or have no room, nothing changes; else one byte more is copied at each turn.
-use Prim.Native.Nat.{ℕ, _+_, _≤_, _<_}
-use borrow.Author.Tests.{le-leb, lt-leb}
+-- Laws of reaching bytes and of copying them: where the bytes are not all there, or have no room, nothing changes; else one byte more
+-- is copied at each turn.
+use Prim.Native.Nat.{ℕ, _+_, _-_, _≤_, _<_}
+use borrow.Author.Tests.{leb-true, le-leb, lt-leb}
 use lib.ListN.{length, take, drop, set, getD, length-drop}
 use lib.Seq.{sets, sets-eq, paste, paste-suc, length-take-le, take-all, getD-take, getD-drop}
+use mathlib.Core.Bool.{true, false, and-false}
 use mathlib.Core.List.{List, _++_}
 use mathlib.Core.Path.{_≡_, sym, ap, _∙_}
 use native.Mathlib.Numerals.{add-one}
@@ -10,6 +12,23 @@ use native.Mathlib.Omega.{arith}
 use Rattle.frame.specs.Bytes.{part}
 use Rattle.frame.specs.Copying.{reaches, copied}
 use Rattle.frame.proofs.Picks.{pick-true, pick-false}
+
+module _ (bytes : List ℕ) (i n : ℕ) where
+  pub starts-behind : length bytes < i → false ≡ reaches bytes i n
+  unfolding reaches
+  starts-behind h = sym (lt-leb (i + n) (length bytes) (omega arith))
+
+  pub ends-behind : i ≤ length bytes → length bytes - i < n → false ≡ reaches bytes i n
+  unfolding reaches
+  ends-behind from h = sym (lt-leb (i + n) (length bytes) (omega arith))
+
+  pub there-reaches : i + n ≤ length bytes → reaches bytes i n ≡ true
+  unfolding reaches
+  there-reaches h = le-leb (i + n) (length bytes) h
+
+  pub reaches-there : reaches bytes i n ≡ true → i + n ≤ length bytes
+  unfolding reaches
+  reaches-there h = leb-true (i + n) (length bytes) h
 
 -- a part that is all there
 module _ (bytes : List ℕ) (i n : ℕ) (there : i + n ≤ length bytes) where
@@ -22,30 +41,29 @@ module _ (bytes : List ℕ) (i n : ℕ) (there : i + n ≤ length bytes) where
   part-at k h = getD-take n (drop i bytes) k 0 h ∙ getD-drop i bytes k 0
 
 module _ (from : List ℕ) (start n : ℕ) (to : List ℕ) (at : ℕ) where
-  pub copied-short : length from < start + n → to ≡ copied from start n to at
-  unfolding copied reaches
-  copied-short short = simp (lt-leb (start + n) (length from) short, pick-false)
+  pub copied-short : reaches from start n ≡ false → to ≡ copied from start n to at
+  unfolding copied
+  copied-short short = simp (short, pick-false)
 
-  module _ (there : start + n ≤ length from) where
-    pub copied-no-room : length to < at + n → to ≡ copied from start n to at
-    unfolding copied reaches
-    copied-no-room none = simp (le-leb (start + n) (length from) there, lt-leb (at + n) (length to) none, pick-false)
+  pub copied-no-room : reaches to at n ≡ false → to ≡ copied from start n to at
+  unfolding copied
+  copied-no-room none = simp (none, and-false, pick-false)
 
-    module _ (room : at + n ≤ length to) where
-      pub copied-is : copied from start n to at ≡ sets to at (part from start n)
-      unfolding copied reaches
-      copied-is = simp (le-leb (start + n) (length from) there, le-leb (at + n) (length to) room, pick-true)
+  module _ (there : start + n ≤ length from) (room : at + n ≤ length to) where
+    pub copied-is : copied from start n to at ≡ sets to at (part from start n)
+    unfolding copied
+    copied-is = simp (there-reaches from start n there, there-reaches to at n room, pick-true)
 
-      pub copied-more : (i : ℕ) → i < n
-          → set (paste to at (part from start n) i) (at + i) (getD from (start + i) 0) ≡ paste to at (part from start n) (i + 1)
-      copied-more i more =
-          rw (← part-at from start n there i more, add-one)
-          (paste-suc to at (part from start n) i 0 (omega arith) (omega (arith, length-part-inside from start n there)))
+    pub copied-more : (i : ℕ) → i < n
+        → set (paste to at (part from start n) i) (at + i) (getD from (start + i) 0) ≡ paste to at (part from start n) (i + 1)
+    copied-more i more =
+        rw (← part-at from start n there i more, add-one)
+        (paste-suc to at (part from start n) i 0 (omega arith) (omega (arith, length-part-inside from start n there)))
 
-      pub copied-whole : paste to at (part from start n) n ≡ copied from start n to at
-      copied-whole =
-          let whole : length (part from start n) ≡ n = length-part-inside from start n there in
-          ap (λ (l : List ℕ). take at to ++ l ++ drop (at + n) to) (take-all n (part from start n) (omega arith))
-          ∙ ap (λ (k : ℕ). take at to ++ part from start n ++ drop (at + k) to) (sym whole)
-          ∙ sym (sets-eq (part from start n) to at (omega arith))
-          ∙ sym copied-is
+    pub copied-whole : paste to at (part from start n) n ≡ copied from start n to at
+    copied-whole =
+        let whole : length (part from start n) ≡ n = length-part-inside from start n there in
+        ap (λ (l : List ℕ). take at to ++ l ++ drop (at + n) to) (take-all n (part from start n) (omega arith))
+        ∙ ap (λ (k : ℕ). take at to ++ part from start n ++ drop (at + k) to) (sym whole)
+        ∙ sym (sets-eq (part from start n) to at (omega arith))
+        ∙ sym copied-is

@@ -1,22 +1,29 @@
 // Copying bytes from one slice into another.
 ghost use mathlib.Core.Path.{_≡_};
-ghost use Rattle.frame.specs.Copying.{copied};
+ghost use Rattle.frame.specs.Copying.{reaches, copied};
+
+// Whether the n bytes from i on are all there, tested by subtraction, so that no sum can wrap.
+pub fn reaches(bytes: &[u8], i: usize, n: usize) -> bool
+    ensures { λ r. ⌜ r ≡ reaches (now (bytes .entry)) i n ⌝ }
+{
+    if bytes.len() < i {
+        return false;
+    }
+    if bytes.len() - i < n {
+        return false;
+    }
+    true
+}
 
 // The n bytes from `start` of one slice go to `at` of the other. Where either has no n bytes there, nothing is
-// copied. The tests are by subtraction, so that no sum can wrap.
+// copied.
 pub fn copy(from: &[u8], start: usize, n: usize, to: &mut [u8], at: usize)
     ensures { λ r. ⌜ now (to .exit) ≡ copied (now (from .entry)) start n (now (to .entry)) at ⌝ }
 {
-    if from.len() < start {
+    if !reaches(from, start, n) {
         return;
     }
-    if from.len() - start < n {
-        return;
-    }
-    if to.len() < at {
-        return;
-    }
-    if to.len() - at < n {
+    if !reaches(to, at, n) {
         return;
     }
     let mut i = 0;

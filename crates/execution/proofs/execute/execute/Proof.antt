@@ -5,13 +5,6 @@ use Rattle.frame.proofs.Tests.{holds, fails, not-holds, not-fails}
 use borrow.Author.Needs.{needs}
 use Rattle.execution.proofs.execute.execute.Statement.{statement}
 use Rattle.execution.proofs.execute.execute.Tie as tie
-use Rattle.execution.proofs.execute.execute.Reads as reads
-use Rattle.execution.proofs.execute.execute.Lts as lts
-use Rattle.execution.proofs.acting.is_error.Reads as is-error-reads
-use Rattle.execution.proofs.acting.store.Reads as store-reads
-use Rattle.execution.proofs.acting.write_answer.Reads as write-answer-reads
-use Rattle.execution.proofs.reach.is_in_reach.Reads as is-in-reach-reads
-use Rattle.tag.proofs.acts.act_of.Reads as act-of-reads
 
 returns : tie.Need-returns
 returns c = refused-short _ _ _ _ (c .if1 .taken)

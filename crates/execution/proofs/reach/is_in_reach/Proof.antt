@@ -4,10 +4,6 @@ use Rattle.frame.proofs.Tests.{not-holds, not-fails}
 use borrow.Author.Needs.{needs}
 use Rattle.execution.proofs.reach.is_in_reach.Statement.{statement}
 use Rattle.execution.proofs.reach.is_in_reach.Tie as tie
-use Rattle.execution.proofs.reach.is_in_reach.Reads as reads
-use Rattle.execution.proofs.reach.is_in_reach.Lts as lts
-use Rattle.execution.proofs.reach.is_epc_there.Reads as is-epc-there-reads
-use Rattle.execution.proofs.reach.is_named_there.Reads as is-named-there-reads
 
 returns : tie.Need-returns
 returns c = no-header _ _ _ (c .if1 .taken)

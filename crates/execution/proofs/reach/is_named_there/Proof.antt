@@ -4,9 +4,6 @@ use Rattle.execution.specs.Reach.{hasNamed}
 use borrow.Author.Needs.{needs}
 use Rattle.execution.proofs.reach.is_named_there.Statement.{statement}
 use Rattle.execution.proofs.reach.is_named_there.Tie as tie
-use Rattle.execution.proofs.reach.is_named_there.Reads as reads
-use Rattle.execution.proofs.reach.is_named_there.Lts as lts
-use Rattle.execution.proofs.reach.is_there.Reads as is-there-reads
 
 enum-known-act : tie.Need-enum-known-act
 enum-known-act c = search needs
@@ -14,8 +11,8 @@ enum-known-act c = search needs
 returns : tie.Need-returns
 returns c = given-long _ _ _ _ _ (c .before .before .act .given .1) (c .if1 .taken)
 
-is-there-requires : tie.Need-is-there-requires
-is-there-requires c κs = search needs
+reaches-requires : tie.Need-reaches-requires
+reaches-requires c κs = search needs
 
 enum-known-act-2 : tie.Need-enum-known-act-2
 enum-known-act-2 c = search needs
@@ -23,11 +20,11 @@ enum-known-act-2 c = search needs
 returns-2 : tie.Need-returns-2
 returns-2 c = stored-short _ _ _ _ (c .before .before .act2 .given .1) (c .if2 .taken)
 
-sub-is-there : tie.Need-sub-is-there
-sub-is-there c = search needs
+sub-reaches : tie.Need-sub-reaches
+sub-reaches c = search needs
 
-is-there-requires-2 : tie.Need-is-there-requires-2
-is-there-requires-2 c κs = search needs
+reaches-requires-2 : tie.Need-reaches-requires-2
+reaches-requires-2 c κs = search needs
 
 enum-told : tie.Need-enum-told
 enum-told c = search needs
@@ -45,10 +42,10 @@ enum-told-5 : tie.Need-enum-told-5
 enum-told-5 c = search needs
 
 returns-3 : tie.Need-returns-3
-returns-3 c = given-there _ _ _ _ _ (c .before .before .before .act .given .1) _ (c .before .if1 .left) (c .is-there .ensures)
+returns-3 c = given-there _ _ _ _ _ (c .before .before .before .act .given .1) _ (c .before .if1 .left) (c .reaches .ensures)
 
 returns-4 : tie.Need-returns-4
-returns-4 c = stored-there _ _ _ _ (c .before .before .before .act2 .given .1) _ (c .before .if2 .left) (c .is-there2 .ensures)
+returns-4 c = stored-there _ _ _ _ (c .before .before .before .act2 .given .1) _ (c .before .if2 .left) (c .reaches2 .ensures)
 
 returns-5 : tie.Need-returns-5
 unfolding hasNamed
@@ -76,11 +73,11 @@ is-named-there-spec =
     (tie.spec
     enum-known-act
     returns
-    is-there-requires
+    reaches-requires
     enum-known-act-2
     returns-2
-    sub-is-there
-    is-there-requires-2
+    sub-reaches
+    reaches-requires-2
     enum-told
     enum-told-2
     enum-told-3

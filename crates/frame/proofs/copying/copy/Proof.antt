@@ -1,43 +1,50 @@
--- `copy` meets its contract. The loop's invariant: the first i bytes stand where they go, and all else is as it was.
+-- `copy` meets its contract. The loop's invariant: all n bytes are there and have room, the first i of them stand where they go, and all
+-- else is as it was.
 use Prim.Native.Nat.{_+_, _-_, _≤_}
 use lib.ListN.{length, set, getD, length-set}
 use lib.Seq.{paste, paste-zero}
 use mathlib.Core.Path.{_≡_, ap, _∙_}
 use native.Mathlib.Omega.{arith}
-use Rattle.frame.proofs.Copies.{copied-short, copied-no-room, copied-more, copied-whole}
+use Rattle.frame.proofs.Copies.{reaches-there, copied-short, copied-no-room, copied-more, copied-whole}
+use Rattle.frame.proofs.Tests.{not-holds, not-fails}
 use Rattle.frame.specs.Bytes.{part}
 use borrow.Author.Needs.{needs}
 use Rattle.frame.proofs.copying.copy.Statement.{statement}
 use Rattle.frame.proofs.copying.copy.Tie as tie
 
 abbrev Inv-loop : tie.InvT-loop
-Inv-loop from start n to₀ at i₀ to i = (i ≤ n) × ((to ≡ paste to₀ at (part from start n) i) × (length to ≡ length to₀))
+Inv-loop from start n to₀ at i₀ to i =
+    (start + n ≤ length from)
+    × ((at + n ≤ length to₀) × ((i ≤ n) × ((to ≡ paste to₀ at (part from start n) i) × (length to ≡ length to₀))))
 
 abbrev μ-loop : tie.MeasureT-loop
 μ-loop from start n to₀ at i₀ to i = n - i
 
-returns : tie.Need-returns Inv-loop μ-loop
-returns c = copied-short _ _ _ _ _ (omega arith)
+reaches-requires : tie.Need-reaches-requires Inv-loop μ-loop
+reaches-requires c κs = search needs
 
-sub-if2 : tie.Need-sub-if2 Inv-loop μ-loop
-sub-if2 c = omega arith
+returns : tie.Need-returns Inv-loop μ-loop
+returns c = copied-short _ _ _ _ _ (not-holds (c .if1 .taken) (c .before .reaches .ensures))
+
+reaches-requires-2 : tie.Need-reaches-requires-2 Inv-loop μ-loop
+reaches-requires-2 c κs = search needs
+
+same-length : tie.Need-same-length Inv-loop μ-loop
+same-length c = search needs
 
 returns-2 : tie.Need-returns-2 Inv-loop μ-loop
-returns-2 c = copied-short _ _ _ _ _ (omega arith)
-
-returns-3 : tie.Need-returns-3 Inv-loop μ-loop
-returns-3 c = copied-no-room _ _ _ _ _ (omega arith) (omega arith)
-
-sub-if4 : tie.Need-sub-if4 Inv-loop μ-loop
-sub-if4 c = omega arith
-
-returns-4 : tie.Need-returns-4 Inv-loop μ-loop
-returns-4 c = copied-no-room _ _ _ _ _ (omega arith) (omega arith)
+returns-2 c = copied-no-room _ _ _ _ _ (not-holds (c .if2 .taken) (c .before .reaches2 .ensures))
 
 loop-holds : tie.Need-loop-holds Inv-loop μ-loop
 loop-holds c =
-    let a = c .before .before .before .before .args in
-    (search needs, (paste-zero (a .to .now) (a .at) (part (a .from .now) (a .start) (a .n)), search needs))
+    let first = c .before .before .before in
+    let a = first .before .before .before .before .args in (
+      reaches-there _ _ _ (not-fails (first .if1 .left) (first .before .reaches .ensures)),
+      (
+        reaches-there _ _ _ (not-fails (c .if2 .left) (c .before .reaches2 .ensures)),
+        (search needs, (paste-zero (a .to .now) (a .at) (part (a .from .now) (a .start) (a .n)), search needs)),
+      ),
+    )
 
 add-to : tie.Need-add-to Inv-loop μ-loop
 add-to c = omega arith
@@ -59,26 +66,34 @@ loop-less c = omega arith
 
 loop-again : tie.Need-loop-again Inv-loop μ-loop
 loop-again c =
-    let a = c .before .before .before .before .before .before .before .args in
-    let i = c .before .before .loop .i in (
-      omega arith,
+    let a = c .before .before .before .before .before .before .before .before .before .before .args in
+    let i = c .before .before .loop .i in
+    let inv = c .before .before .loop .inv in (
+      inv .0,
       (
-        ap (λ l. set l (a .at + i) (getD (a .from .now) (a .start + i) 0)) (c .before .before .loop .inv .1 .0)
-            ∙ copied-more (a .from .now) (a .start) (a .n) (a .to .now) (a .at) (omega arith) (omega arith) i (omega arith),
-        simp length-set (omega arith),
+        inv .1 .0,
+        (
+          omega arith,
+          (
+            ap (λ l. set l (a .at + i) (getD (a .from .now) (a .start + i) 0)) (inv .1 .1 .1 .0)
+                ∙ copied-more (a .from .now) (a .start) (a .n) (a .to .now) (a .at) (inv .0) (inv .1 .0) i (omega arith),
+            simp length-set (omega arith),
+          ),
+        ),
       ),
     )
 
-same-length : tie.Need-same-length Inv-loop μ-loop
-same-length c = search needs
+same-length-2 : tie.Need-same-length-2 Inv-loop μ-loop
+same-length-2 c = search needs
 
-returns-5 : tie.Need-returns-5 Inv-loop μ-loop
-returns-5 c =
-    let a = c .before .before .before .before .before .before .args in
+returns-3 : tie.Need-returns-3 Inv-loop μ-loop
+returns-3 c =
+    let a = c .before .before .before .before .before .before .before .before .before .args in
+    let inv = c .before .loop .inv in
     let all : c .before .loop .i ≡ a .n = omega arith in
-    c .before .loop .inv .1 .0
+    inv .1 .1 .1 .0
     ∙ ap (λ i. paste (a .to .now) (a .at) (part (a .from .now) (a .start) (a .n)) i) all
-    ∙ copied-whole (a .from .now) (a .start) (a .n) (a .to .now) (a .at) (omega arith) (omega arith)
+    ∙ copied-whole (a .from .now) (a .start) (a .n) (a .to .now) (a .at) (inv .0) (inv .1 .0)
 
 pub copy-spec : {M : Type 1} → statement M
 copy-spec =
@@ -86,12 +101,11 @@ copy-spec =
     (tie.spec
     Inv-loop
     μ-loop
+    reaches-requires
     returns
-    sub-if2
+    reaches-requires-2
+    same-length
     returns-2
-    returns-3
-    sub-if4
-    returns-4
     loop-holds
     add-to
     shared-slice-read-to
@@ -100,5 +114,5 @@ copy-spec =
     add-i
     loop-less
     loop-again
-    same-length
-    returns-5)
+    same-length-2
+    returns-3)
