@@ -45,6 +45,22 @@ fn long_inputs() {
     run(b"An image of 2,049 bytes\n", &TRUNCATED, &mut image);
 }
 
+// The bytes 0 to 250 over and over. No frame is among them: BB is followed by BC.
+fn fill_with_noise(commands: &mut [u8]) {
+    let mut i = 0;
+    while i < commands.len() {
+        commands[i] = (i % 251) as u8;
+        i += 1;
+    }
+}
+
+// A line of eight bytes for each byte dropped makes more than 65,536 bytes, which is the most that is printed at once.
+fn long_report() {
+    let mut commands = [0u8; 9036];
+    fill_with_noise(&mut commands);
+    on_sample(b"A report of several pieces\n", &commands);
+}
+
 fn main() {
     on_sample(b"A false header with a real frame inside\n", &FALSE_HEADER);
     on_sample(b"A command that breaks off\n", &TRUNCATED);
@@ -54,4 +70,5 @@ fn main() {
         &HISTORY,
     );
     long_inputs();
+    long_report();
 }
