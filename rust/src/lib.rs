@@ -1,7 +1,8 @@
 //! The proved bench for Rust programs: a safe wrapper over the static library that
-//! `rt staticlib embed` writes. Beside it, an independent model of the same rules ([`model`]) and
-//! the generators that feed both ([`generator`]).
+//! `rt staticlib embed` writes. Beside it, an independent model of the same rules ([`model`]), the
+//! generators that feed both ([`generator`]) and what the test programs are told ([`arguments`]).
 
+pub mod arguments;
 pub mod generator;
 pub mod model;
 

@@ -2,7 +2,7 @@
 use Prim.Native.Nat.{ℕ, _+_, _*_, _/_, _%_, _<_}
 use borrow.Author.Tests.{eq-eqb, ne-eqb, eqb-true, lt-ltb, not-false}
 use lib.Dec.{eqb}
-use mathlib.Core.Bool.{Bool, false, not, _||_}
+use mathlib.Core.Bool.{Bool, false, not, _||_, and-true}
 use mathlib.Core.List.{List}
 use mathlib.Core.Path.{_≡_, refl, sym}
 use native.Mathlib.Nat.{div-div-eq-div-mul}
@@ -10,7 +10,7 @@ use native.Mathlib.Omega.{arith}
 use Rattle.bench.proofs.Effects.{lock-keeps}
 use Rattle.bench.specs.Claims.{PairBits, LockTable, Regions, RangeBeforeLock, Standings, NewPair, Permalocks, PermalockRule}
 use Rattle.frame.proofs.Picks.{pick-true, pick-false}
-use Rattle.frame.proofs.Tests.{and-second, and-true, or-neither}
+use Rattle.frame.proofs.Tests.{and-second, or-neither}
 use Rattle.frame.specs.Bytes.{pick}
 use Rattle.tag.specs.Commands.{outside, readVerdict, writeVerdict}
 use Rattle.tag.specs.Locks.{pairs, permalocked, standingOf, isSecured, allows, touches, mayTouchPasswords, mayRead, mayWrite, newBit, newPair, breaks, breaksPermalock}

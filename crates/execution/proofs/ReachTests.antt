@@ -5,7 +5,7 @@ use lib.ListN.{length, length-drop}
 use mathlib.Core.Bool.{Bool, true, false}
 use mathlib.Core.List.{List}
 use mathlib.Core.Path.{_≡_, _∙_}
-use Rattle.frame.specs.Copying.{reaches}
+use Rattle.frame.specs.Bytes.{reaches}
 use Rattle.tag.specs.Commands.{dataIn}
 use Rattle.tag.specs.Image.{wordAt, epcLength}
 use Rattle.tag.specs.Places.{EpcPlace}

@@ -1,5 +1,5 @@
 -- What a command needs of the image: a good one has it, and what has it serves the answer and the store.
-use Prim.Native.Nat.{ℕ, _+_, _*_, _≤_}
+use Prim.Native.Nat.{ℕ, _*_, _≤_}
 use borrow.Author.Tests.{le-leb, leb-true}
 use lib.ListN.{length}
 use lib.Dec.{leb}
@@ -9,14 +9,14 @@ use mathlib.Core.Path.{_≡_, refl}
 use native.Mathlib.Omega.{arith}
 use Rattle.frame.proofs.Copies.{there-reaches, reaches-there}
 use Rattle.frame.proofs.Tests.{and-left, and-right, and-both}
-use Rattle.frame.specs.Copying.{reaches}
+use Rattle.frame.specs.Bytes.{reaches}
 use Rattle.tag.proofs.Cases.{Reads, Writes, placeOf, act-cases}
 use Rattle.tag.proofs.GoodImages.{Good, good-facts}
 use Rattle.tag.proofs.Places.{Inside, inside, data-length}
 use Rattle.tag.specs.Commands.{dataIn, countIn, actOf}
 use Rattle.tag.specs.Image.{good, view, wordAt, epcLength}
 use Rattle.tag.specs.declared.commands.Act.{Act}
-use Rattle.tag.specs.declared.commands.Act.the-variants.{PlainError, TagError, Notify, Give, Store, SetLocks, SetKilled}
+use Rattle.tag.specs.declared.commands.Act.the-variants.{Give, Store}
 use Rattle.execution.specs.Reach.{hasEpc, hasNamed, inReach, Gives, Stores}
 
 -- ---- an image in whose reach an act is

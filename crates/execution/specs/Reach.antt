@@ -5,7 +5,7 @@ use mathlib.Core.List.{List}
 use mathlib.Core.Path.{_≡_}
 use lib.Dec.{leb}
 use lib.ListN.{length}
-use Rattle.frame.specs.Copying.{reaches}
+use Rattle.frame.specs.Bytes.{reaches}
 use Rattle.tag.specs.Commands.{dataIn}
 use Rattle.tag.specs.Image.{view, wordAt, epcLength}
 use Rattle.tag.specs.declared.commands.Act.{Act}

@@ -1,6 +1,6 @@
 // Whether the image has all that a command needs of it. Where it is good, it has; `execute` tests no more than this, so that it stands
 // by itself and a call does not test the whole image twice.
-use frame::copying::reaches;
+use frame::bytes::reaches;
 use tag::commands::Act;
 use tag::image::epc_place;
 ghost use mathlib.Core.Path.{_≡_};

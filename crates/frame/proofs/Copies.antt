@@ -2,6 +2,7 @@
 -- is copied at each turn.
 use Prim.Native.Nat.{ℕ, _+_, _-_, _≤_, _<_}
 use borrow.Author.Tests.{leb-true, le-leb, lt-leb}
+use lib.Dec.{leb}
 use lib.ListN.{length, take, drop, set, getD, length-drop}
 use lib.Seq.{sets, sets-eq, paste, paste-suc, length-take-le, take-all, getD-take, getD-drop}
 use mathlib.Core.Bool.{true, false, and-false}
@@ -9,19 +10,22 @@ use mathlib.Core.List.{List, _++_}
 use mathlib.Core.Path.{_≡_, sym, ap, _∙_}
 use native.Mathlib.Numerals.{add-one}
 use native.Mathlib.Omega.{arith}
-use Rattle.frame.specs.Bytes.{part}
-use Rattle.frame.specs.Copying.{reaches, copied}
+use Rattle.frame.specs.Bytes.{part, reaches}
+use Rattle.frame.specs.Copying.{copied}
 use Rattle.frame.proofs.Picks.{pick-true, pick-false}
 
+-- a difference compared in the place of a sum
+module _ (at n room : ℕ) where
+  pub starts-behind : room < at → false ≡ leb (at + n) room
+  starts-behind h = sym (lt-leb (at + n) room (omega arith))
+
+  pub ends-behind : at ≤ room → room - at < n → false ≡ leb (at + n) room
+  ends-behind from h = sym (lt-leb (at + n) room (omega arith))
+
+  pub ends-in-time : at ≤ room → n ≤ room - at → true ≡ leb (at + n) room
+  ends-in-time from h = sym (le-leb (at + n) room (omega arith))
+
 module _ (bytes : List ℕ) (i n : ℕ) where
-  pub starts-behind : length bytes < i → false ≡ reaches bytes i n
-  unfolding reaches
-  starts-behind h = sym (lt-leb (i + n) (length bytes) (omega arith))
-
-  pub ends-behind : i ≤ length bytes → length bytes - i < n → false ≡ reaches bytes i n
-  unfolding reaches
-  ends-behind from h = sym (lt-leb (i + n) (length bytes) (omega arith))
-
   pub there-reaches : i + n ≤ length bytes → reaches bytes i n ≡ true
   unfolding reaches
   there-reaches h = le-leb (i + n) (length bytes) h

@@ -46,10 +46,6 @@ pub either {ℓ} : {C : Type ℓ} (test : Bool) → (test ≡ true → C) → (t
 either true yes-case no-case = yes-case refl
 either false yes-case no-case = no-case refl
 
-pub and-true : (a : Bool) → (a && true) ≡ a
-and-true true = refl
-and-true false = refl
-
 -- ---- what a call's answer, tested by an `if`, says of the definition that it is promised to equal
 
 pub holds : {answer test : Bool} → answer ≡ true → answer ≡ test → test ≡ true

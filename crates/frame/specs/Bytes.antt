@@ -2,7 +2,8 @@
 use Prim.Native.Nat.{ℕ, _+_, _*_, _/_, _%_}
 use mathlib.Core.Bool.{Bool, true, false, _&&_}
 use mathlib.Core.List.{List, [], _∷_}
-use lib.ListN.{getD, take, drop}
+use lib.Dec.{leb}
+use lib.ListN.{length, getD, take, drop}
 
 -- `pick test x y`: x where the test holds, else y. A row of rules, tried in order, is a chain of these.
 unfoldable pub pick {ℓ} : {X : Type ℓ} → Bool → X → X → X
@@ -31,3 +32,7 @@ twoBytes n = n / 256 % 256 ∷ n % 256 ∷ []
 -- the n bytes from i on
 unfoldable pub part : List ℕ → ℕ → ℕ → List ℕ
 part bytes i n = take n (drop i bytes)
+
+-- the n bytes from i on are all there
+unfoldable pub reaches : List ℕ → ℕ → ℕ → Bool
+reaches bytes i n = leb (i + n) (length bytes)

@@ -1,16 +1,10 @@
 -- Copying bytes from one slice into another: n bytes from `start` of the one to `at` of the other. Where either has
 -- not so many there, nothing is copied.
-use Prim.Native.Nat.{ℕ, _+_}
-use mathlib.Core.Bool.{Bool, _&&_}
+use Prim.Native.Nat.{ℕ}
+use mathlib.Core.Bool.{_&&_}
 use mathlib.Core.List.{List}
-use lib.Dec.{leb}
-use lib.ListN.{length}
 use lib.Seq.{sets}
-use Rattle.frame.specs.Bytes.{pick, part}
-
--- the n bytes from i on are all there
-unfoldable pub reaches : List ℕ → ℕ → ℕ → Bool
-reaches bytes i n = leb (i + n) (length bytes)
+use Rattle.frame.specs.Bytes.{pick, part, reaches}
 
 -- the bytes after
 unfoldable pub copied : List ℕ → ℕ → ℕ → List ℕ → ℕ → List ℕ

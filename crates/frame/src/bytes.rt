@@ -1,7 +1,8 @@
-// Reading bytes and numbers out of a slice, at any place: what lies behind the end counts as 0.
+// Reading bytes and numbers out of a slice, at any place: what lies behind the end counts as 0. And whether bytes are there.
 ghost use mathlib.Core.Path.{_≡_};
-ghost use Prim.Native.Nat.{_<_};
-ghost use Rattle.frame.specs.Bytes.{byte, number, double};
+ghost use Prim.Native.Nat.{_+_, _<_};
+ghost use lib.Dec.{leb};
+ghost use Rattle.frame.specs.Bytes.{byte, number, double, reaches};
 
 pub fn byte_at(bytes: &[u8], i: usize) -> u8
     ensures { λ r. ⌜ r ≡ byte (now (bytes .entry)) i ⌝ }
@@ -38,4 +39,24 @@ pub fn double_at(bytes: &[u8], i: usize) -> usize
         return number_at(bytes, i) * 65536 + number_at(bytes, i + 2);
     }
     0
+}
+
+// Whether `at` and n more come to no more than `room`, tested by subtraction, so that no sum can wrap.
+pub fn fits(at: usize, n: usize, room: usize) -> bool
+    ensures { λ r. ⌜ r ≡ leb (at + n) room ⌝ }
+{
+    if room < at {
+        return false;
+    }
+    if room - at < n {
+        return false;
+    }
+    true
+}
+
+// Whether the n bytes from i on are all there.
+pub fn reaches(bytes: &[u8], i: usize, n: usize) -> bool
+    ensures { λ r. ⌜ r ≡ reaches (now (bytes .entry)) i n ⌝ }
+{
+    fits(i, n, bytes.len())
 }

@@ -1,19 +1,7 @@
 // Copying bytes from one slice into another.
+use crate::bytes::reaches;
 ghost use mathlib.Core.Path.{_≡_};
-ghost use Rattle.frame.specs.Copying.{reaches, copied};
-
-// Whether the n bytes from i on are all there, tested by subtraction, so that no sum can wrap.
-pub fn reaches(bytes: &[u8], i: usize, n: usize) -> bool
-    ensures { λ r. ⌜ r ≡ reaches (now (bytes .entry)) i n ⌝ }
-{
-    if bytes.len() < i {
-        return false;
-    }
-    if bytes.len() - i < n {
-        return false;
-    }
-    true
-}
+ghost use Rattle.frame.specs.Copying.{copied};
 
 // The n bytes from `start` of one slice go to `at` of the other. Where either has no n bytes there, nothing is
 // copied.

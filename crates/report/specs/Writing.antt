@@ -4,9 +4,8 @@ use mathlib.Core.Bool.{Bool, true, false}
 use mathlib.Core.List.{List, _++_}
 use mathlib.Core.Path.{_≡_}
 use lib.ListN.{length, take, drop, replicate}
-use Rattle.bench.specs.Machine.{stateOf}
 use Rattle.bench.specs.Counts.{freshTally}
-use Rattle.bench.specs.Machine.{State, call, step}
+use Rattle.bench.specs.Machine.{State, stateOf, call, step}
 use Rattle.bench.specs.Machine.{after as afterCalls}
 use Rattle.bench.specs.declared.calling.Called.{Called}
 use Rattle.bench.specs.declared.outcome.Outcome.the-variants.{Answered}

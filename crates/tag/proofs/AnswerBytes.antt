@@ -20,11 +20,11 @@ use Rattle.tag.specs.declared.commands.Act.{Act}
 use Rattle.tag.specs.declared.commands.Act.the-variants.{PlainError, TagError, Notify, Give, Store, SetLocks, SetKilled}
 
 module _ (image : List ℕ) (g : Good (view image)) where
-  pub pc-and-epc-most : length (pcAndEpc image) ≤ 64
+  pc-and-epc-most : length (pcAndEpc image) ≤ 64
   unfolding pcAndEpc
   pc-and-epc-most = omega (arith, length-part image (wordAt (view image .epc) 1) (2 + 2 * epcLength (view image .pc)), g .epc-fits, g .epc-most)
 
-  pub tail-most : length (tail image) ≤ 65
+  tail-most : length (tail image) ≤ 65
   unfolding tail
   tail-most = omega (arith, pc-and-epc-most)
 

@@ -1,10 +1,10 @@
--- Laws of the words that a command reaches, tested without a sum that could wrap: which regions they touch, and whether they
--- are in their bank.
+-- Laws of the words that a command reaches: which regions they touch, tested without a sum that could wrap, and whether they are
+-- in their bank.
 use Prim.Native.Nat.{ℕ, _+_, _-_, _<_, _≤_}
 use mathlib.Core.Bool.{true, false, and-false}
 use mathlib.Core.Path.{_≡_, sym}
-use borrow.Author.Tests.{lt-ltb, le-ltb, ltb-false}
-use lib.Dec.{ltb}
+use borrow.Author.Tests.{leb-true, leb-false, lt-ltb, le-ltb, ltb-false}
+use lib.Dec.{leb, ltb}
 use native.Mathlib.Omega.{arith}
 use Rattle.tag.proofs.Banks.{small-bank}
 use Rattle.tag.specs.Bounds.{Small}
@@ -31,14 +31,11 @@ module _ (pointer count first : ℕ) where
   reaches-in h k = simp (lt-ltb pointer (first + 2) (omega arith), lt-ltb first (pointer + count) (omega arith))
 
 module _ (words pointer count : ℕ) where
-  pub starts-outside : words < pointer → true ≡ ltb words (pointer + count)
-  starts-outside h = sym (lt-ltb words (pointer + count) (omega arith))
+  pub fits-inside : leb (pointer + count) words ≡ true → false ≡ ltb words (pointer + count)
+  fits-inside h = sym (le-ltb words (pointer + count) (leb-true (pointer + count) words h))
 
-  pub ends-outside : pointer ≤ words → words - pointer < count → true ≡ ltb words (pointer + count)
-  ends-outside h k = sym (lt-ltb words (pointer + count) (omega arith))
-
-  pub ends-inside : pointer ≤ words → count ≤ words - pointer → false ≡ ltb words (pointer + count)
-  ends-inside h k = sym (le-ltb words (pointer + count) (omega arith))
+  pub runs-outside : leb (pointer + count) words ≡ false → true ≡ ltb words (pointer + count)
+  runs-outside h = sym (lt-ltb words (pointer + count) (leb-false (pointer + count) words h))
 
 -- what is in its bank has a small place in the image
 pub record Near (v : View) (bank pointer count : ℕ) : Type 0 where

@@ -8,22 +8,19 @@ use crate::locks::is_wrong;
 use crate::regions::may_read;
 use crate::regions::may_write;
 use frame::bytes;
+use frame::bytes::fits;
 ghost use mathlib.Core.Path.{_≡_};
 ghost use Rattle.tag.specs.Bounds.{Small};
 ghost use Rattle.tag.specs.Commands.{dataIn, outside, lengthBroken, readVerdict, writeVerdict};
 
-// Tested so that no sum can wrap.
 fn is_outside(v: View, bank: usize, pointer: usize, count: usize) -> bool
     ensures { λ r. ⌜ r ≡ outside v bank pointer count ⌝ }
 {
     let b = bank_of(v, bank);
-    if b.words < pointer {
-        return true;
+    if fits(pointer, count, b.words) {
+        return false;
     }
-    if b.words - pointer < count {
-        return true;
-    }
-    false
+    true
 }
 
 pub(crate) fn read_verdict(v: View, s: Standing, bank: usize, pointer: usize, count: usize) -> Act

@@ -7,11 +7,11 @@
 //! alone, so that a difference is replayed by naming both. A run in which some branch of the model
 //! was never taken counts as failed: it would have compared less than it says.
 
+use poldrisk::arguments::Arguments;
 use poldrisk::generator::{self, Random};
 use poldrisk::model::{self, Bench};
 use poldrisk::{call_packed, COUNT_OUT_OF_RANGE, STATE_LENGTH_WRONG};
 use std::process::exit;
-use std::time::{SystemTime, UNIX_EPOCH};
 
 const LIMIT: u64 = 4_294_967_295;
 
@@ -165,18 +165,14 @@ fn wrong_state_length(random: &mut Random, proved: &Proved, input: &[u8]) {
 }
 
 fn main() {
-    let arguments: Vec<u64> = std::env::args()
-        .skip(1)
-        .map(|a| a.parse().expect("CALLS, SEED and TRIAL are numbers"))
-        .collect();
-    let wanted = arguments.first().copied().unwrap_or(300_000);
-    let seed = arguments.get(1).copied().unwrap_or_else(|| {
-        let now = SystemTime::now().duration_since(UNIX_EPOCH);
-        now.map_or(1, |t| t.as_nanos() as u64 % 1_000_000_000_000)
-    });
+    let Arguments {
+        calls: wanted,
+        seed,
+        trial: only,
+    } = Arguments::read();
     let mut answers = [0; 22];
-    if let Some(only) = arguments.get(2) {
-        let calls = trial(seed, *only, &mut answers);
+    if let Some(only) = only {
+        let calls = trial(seed, only, &mut answers);
         println!("trial {only} of seed {seed}: {calls} calls, no difference");
         return;
     }

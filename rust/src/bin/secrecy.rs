@@ -9,10 +9,10 @@
 //! a kill password of either. Then the same is run with one premise dropped at a time, and each of
 //! these runs must show a difference: else the test could not fail, and would show nothing.
 
+use poldrisk::arguments::Arguments;
 use poldrisk::call_packed;
 use poldrisk::generator::{self, double, frame, offset_place, Random};
 use std::process::exit;
-use std::time::{SystemTime, UNIX_EPOCH};
 
 /// Which premise a run leaves out.
 #[derive(Clone, Copy, Debug, PartialEq, Eq)]
@@ -235,15 +235,11 @@ fn try_out(seed: u64, wanted: u64, dropped: Dropped) -> (u64, bool) {
 }
 
 fn main() {
-    let arguments: Vec<u64> = std::env::args()
-        .skip(1)
-        .map(|a| a.parse().expect("CALLS and SEED are numbers"))
-        .collect();
-    let wanted = arguments.first().copied().unwrap_or(300_000);
-    let seed = arguments.get(1).copied().unwrap_or_else(|| {
-        let now = SystemTime::now().duration_since(UNIX_EPOCH);
-        now.map_or(1, |t| t.as_nanos() as u64 % 1_000_000_000_000)
-    });
+    let Arguments {
+        calls: wanted,
+        seed,
+        ..
+    } = Arguments::read();
     println!("secrecy over {wanted} calls, seed {seed}");
     let (calls, agreed) = try_out(seed, wanted, Dropped::None);
     if !agreed {

@@ -1,5 +1,4 @@
 -- `ends_by` meets its contract: the sum that it compares is the bank's end.
-use borrow.Author.Needs.{needs}
 use native.Mathlib.Omega.{arith}
 use Rattle.tag.proofs.Banks.{ends-late, ends-in-time}
 use Rattle.tag.proofs.good.ends_by.Statement.{statement}

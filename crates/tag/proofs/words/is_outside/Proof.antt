@@ -1,6 +1,7 @@
--- `is_outside` meets its contract: a difference is compared in the place of the sum.
+-- `is_outside` meets its contract: words that do not fit are outside.
 use borrow.Author.Needs.{needs}
-use Rattle.tag.proofs.Reach.{starts-outside, ends-outside, ends-inside}
+use Rattle.frame.proofs.Tests.{holds, fails}
+use Rattle.tag.proofs.Reach.{fits-inside, runs-outside}
 use Rattle.tag.specs.Commands.{outside}
 use Rattle.tag.proofs.words.is_outside.Statement.{statement}
 use Rattle.tag.proofs.words.is_outside.Tie as tie
@@ -8,21 +9,22 @@ use Rattle.tag.proofs.words.is_outside.Tie as tie
 bank-of-requires : tie.Need-bank-of-requires
 bank-of-requires c κs = search needs
 
+fits-requires : tie.Need-fits-requires
+fits-requires c κs = search needs
+
 returns : tie.Need-returns
 unfolding outside
-returns c = simp (← (c .before .before .bank-of .ensures)) (starts-outside _ _ _ (c .if1 .taken))
+returns c =
+    let bank = c .before .before in
+    let a = bank .before .args in
+    simp (← (bank .bank-of .ensures)) (fits-inside (bank .bank-of .result .words) (a .pointer) (a .count) (holds (c .if1 .taken) (c .before .fits2 .ensures)))
 
 returns-2 : tie.Need-returns-2
 unfolding outside
 returns-2 c =
-    simp
-    (← (c .before .before .before .before .bank-of .ensures)) (ends-outside _ _ _ (c .before .before .if1 .left) (c .if2 .taken))
-
-returns-3 : tie.Need-returns-3
-unfolding outside
-returns-3 c =
-    simp
-    (← (c .before .before .before .before .bank-of .ensures)) (ends-inside _ _ _ (c .before .before .if1 .left) (c .if2 .left))
+    let bank = c .before .before in
+    let a = bank .before .args in
+    simp (← (bank .bank-of .ensures)) (runs-outside (bank .bank-of .result .words) (a .pointer) (a .count) (fails (c .if1 .left) (c .before .fits2 .ensures)))
 
 pub is-outside-spec : {M : Type 1} → statement M
-is-outside-spec = tie.close (tie.spec bank-of-requires returns returns-2 returns-3)
+is-outside-spec = tie.close (tie.spec bank-of-requires fits-requires returns returns-2)
