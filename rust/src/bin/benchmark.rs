@@ -3,8 +3,8 @@
 //!     benchmark [ROUNDS]
 //!
 //! Each workload is run from a fresh image to the end of the input, at 4, 8, 16 and 32 KiB. Printed
-//! are the medians over the rounds, the ratio proved to model, and how time grows as the input
-//! doubles. The model's branch counters are compiled out here.
+//! are the times, the ratio proved to model, and how time grows as the input doubles, each the
+//! median over the rounds. The model's branch counters are compiled out here.
 
 use poldrisk::call_packed;
 use poldrisk::generator::{double, frame, offset_place, sample_image, set_double, Random};
@@ -188,36 +188,53 @@ fn turn(workload: &Workload, input: &[u8]) -> (f64, f64) {
     (proved * 1e6, model * 1e6)
 }
 
-/// The medians of both at each size. A round has a turn at every size, so that a slow spell of the
-/// machine falls on all of them alike.
-fn measure(workload: &Workload, rounds: usize) -> [(f64, f64); SIZES.len()] {
+/// What is printed of one size: medians over the rounds. The ratio and the growths are those of a
+/// round, whose turns lie close together: a slow spell of the machine then falls on both sides of
+/// them alike, and does not make a ratio of its own.
+struct Medians {
+    proved: f64,
+    model: f64,
+    ratio: f64,
+    growth_of_proved: f64,
+    growth_of_model: f64,
+}
+
+/// The times of all rounds, one turn at every size in each.
+fn rounds_of(workload: &Workload, rounds: usize) -> Vec<[(f64, f64); SIZES.len()]> {
     let inputs = SIZES.map(workload.input);
-    let mut proved = SIZES.map(|_| Vec::new());
-    let mut model = SIZES.map(|_| Vec::new());
-    for _ in 0..rounds {
-        for (i, input) in inputs.iter().enumerate() {
-            let times = turn(workload, input);
-            proved[i].push(times.0);
-            model[i].push(times.1);
-        }
+    (0..rounds)
+        .map(|_| std::array::from_fn(|i| turn(workload, &inputs[i])))
+        .collect()
+}
+
+fn medians(rounds: &[[(f64, f64); SIZES.len()]], i: usize) -> Medians {
+    let over = |figure: &dyn Fn(&[(f64, f64); SIZES.len()]) -> f64| {
+        median(&mut rounds.iter().map(figure).collect::<Vec<_>>())
+    };
+    let before = i.saturating_sub(1);
+    Medians {
+        proved: over(&|r| r[i].0),
+        model: over(&|r| r[i].1),
+        ratio: over(&|r| r[i].0 / r[i].1),
+        growth_of_proved: over(&|r| r[i].0 / r[before].0),
+        growth_of_model: over(&|r| r[i].1 / r[before].1),
     }
-    std::array::from_fn(|i| (median(&mut proved[i]), median(&mut model[i])))
 }
 
 fn report(workload: &Workload, rounds: usize) -> bool {
     println!("{}", workload.name);
     println!("   bytes   proved us    model us   ratio   growth of proved, of model");
-    let medians = measure(workload, rounds);
+    let rounds = rounds_of(workload, rounds);
     let mut met = true;
-    for (i, (proved, model)) in medians.into_iter().enumerate() {
-        let ratio = proved / model;
-        met &= ratio <= GOAL_RATIO;
-        print!("{:8} {proved:11.1} {model:11.1} {ratio:7.2}", SIZES[i]);
+    for (i, size) in SIZES.into_iter().enumerate() {
+        let m = medians(&rounds, i);
+        met &= m.ratio <= GOAL_RATIO && m.growth_of_proved <= GOAL_GROWTH;
+        print!(
+            "{size:8} {:11.1} {:11.1} {:7.2}",
+            m.proved, m.model, m.ratio
+        );
         if i > 0 {
-            let before = medians[i - 1];
-            let growth = proved / before.0;
-            met &= growth <= GOAL_GROWTH;
-            print!("   {growth:.2}, {:.2}", model / before.1);
+            print!("   {:.2}, {:.2}", m.growth_of_proved, m.growth_of_model);
         }
         println!();
     }
