@@ -1,25 +1,26 @@
 -- What a call answers, and what it leaves under each answer.
 use Prim.Native.Nat.{ℕ, _+_, _≤_}
-use lib.ListN.{length, length-drop}
+use lib.ListN.{length, length-drop, take}
 use mathlib.Core.Bool.{Bool, true, false}
 use mathlib.Core.List.{List}
 use mathlib.Core.Logic.{_≢_}
-use mathlib.Core.Path.{_≡_, refl}
+use mathlib.Core.Path.{_≡_, refl, ap}
 use native.Mathlib.Omega.{arith}
 use Rattle.bench.proofs.Steps.{Ready, step-cases}
 use Rattle.bench.proofs.Tallies.{not-full-dropped, raised-below}
-use Rattle.bench.specs.Claims.{firstOf, AnswerNumbers, NothingChanges, DropTakesOneByte, OneFrame, AnswerIsOneFrame}
+use Rattle.bench.specs.Claims.{AnswerNumbers, NothingChanges, DropTakesOneByte, OneFrame, AnswerIsOneFrame, CommandsComeTo}
 use Rattle.bench.specs.Counts.{full, limit}
 use Rattle.bench.specs.Machine.{State, Call, Step, numberOf, unchanged, dropped, answered, actIn, afterFinding, inputOf, restOf, step}
 use Rattle.frame.proofs.Accepting.{Accepted}
 use Rattle.frame.proofs.FrameBytes.{length-written, take-written, drop-written}
 use Rattle.frame.proofs.Picks.{pick-or, pick-not-both}
-use Rattle.frame.specs.Bytes.{pick}
-use Rattle.frame.specs.Finding.{find, plIn, checkRight, endRight}
+use Rattle.frame.specs.Bytes.{pick, firstOf, byte, number, part}
+use Rattle.frame.specs.Finding.{find, codeIn, parametersIn, plIn, checkRight, endRight}
 use Rattle.frame.specs.Frames.{checkOf, frameLength, longestCommand, longestAnswer}
 use Rattle.frame.specs.declared.finding.Found.{Found}
 use Rattle.tag.proofs.AnswerBytes.{answer-most}
-use Rattle.tag.specs.Answers.{answer}
+use Rattle.tag.specs.Answers.{answer, changed}
+use Rattle.tag.specs.Claims.{comesTo, outcome}
 
 -- the number of a step, and the step after finding, go into a choice
 number-pick : (test : Bool) (x y : Step) → numberOf (pick test x y .outcome) ≡ pick test (numberOf (x .outcome)) (numberOf (y .outcome))
@@ -82,3 +83,17 @@ unfolding unchanged dropped answered numberOf
 answer-is-one-frame c s =
     step-cases c s (λ (x : Step). numberOf (x .outcome) ≡ 0 → OneFrame c s x) (λ o m n e. absurd (m e)) (λ r some e. absurd (omega (arith, e)))
     (λ r pl a e. framed c s r pl a)
+
+pub commands-come-to : CommandsComeTo
+unfolding unchanged dropped answered numberOf actIn codeIn parametersIn plIn outcome
+commands-come-to c s =
+    step-cases c s
+    (λ (x : Step).
+    numberOf (x .outcome) ≡ 0
+    → (take (x .length) (x .next .output), x .next .image)
+    ≡ comesTo (s .image) (byte (restOf c s) 2) (part (restOf c s) 5 (number (restOf c s) 3)))
+    (λ o m n e. absurd (m e))
+    (λ r some e. absurd (omega (arith, e)))
+    (λ r pl a e.
+    ap (λ (frame : List ℕ). (frame, changed (s .image) (parametersIn (restOf c s)) (actIn s (restOf c s))))
+    (take-written (answer (s .image) (actIn s (restOf c s))) (s .output)))

@@ -1,16 +1,12 @@
 -- A proof of every statement on the claims page, specs/Claims.antt, in its order.
-use Prim.Native.Nat.{ℕ}
-use mathlib.Core.List.{List}
 use Rattle.bench.proofs.Answering as Answering
 use Rattle.bench.proofs.Bounding as Bounding
 use Rattle.bench.proofs.Computed as Computed
 use Rattle.bench.proofs.Effects as Effects
 use Rattle.bench.proofs.Histories as Histories
 use Rattle.bench.proofs.Secret as Secret
-use Rattle.bench.proofs.Tables as Tables
-use Rattle.bench.specs.Claims.{AnswerNumbers, NothingChanges, DropTakesOneByte, AnswerIsOneFrame, History, Bound, Starred, GoodStaysGood, WriteEffect, LockEffect, KillEffect, NoOtherEffect, GapsStay, PairBits, LockTable, Regions, RangeBeforeLock, Standings, NewPair, PermalockRule, Demand3, Demand3CanBeMet}
-use Rattle.tag.specs.declared.image.View.{View}
-use Rattle.tag.specs.declared.locks.Standing.{Standing}
+use Rattle.bench.proofs.Permalocked as Permalocked
+use Rattle.bench.specs.Claims.{AnswerNumbers, NothingChanges, DropTakesOneByte, AnswerIsOneFrame, History, Bound, Starred, CommandsComeTo, GoodStaysGood, WriteEffect, LockEffect, KillEffect, NoOtherEffect, GapsStay, PermalockRule, Demand3, Demand3CanBeMet}
 
 pub answer-numbers : AnswerNumbers
 answer-numbers = Answering.answer-numbers
@@ -33,6 +29,9 @@ bound = Bounding.bound
 pub starred : Starred
 starred = Computed.starred
 
+pub commands-come-to : CommandsComeTo
+commands-come-to = Answering.commands-come-to
+
 pub good-stays-good : GoodStaysGood
 good-stays-good = Histories.good-stays-good
 
@@ -51,26 +50,8 @@ no-other-effect = Effects.no-other-effect
 pub gaps-stay : GapsStay
 gaps-stay = Effects.gaps-stay
 
-pub pair-bits : PairBits
-pair-bits = Tables.pair-bits
-
-pub lock-table : LockTable
-lock-table = Tables.lock-table
-
-pub regions : (v : View) (s : Standing) (pointer n : ℕ) → Regions v s pointer n
-regions = Tables.regions
-
-pub range-before-lock : (v : View) (s : Standing) (bank pointer n : ℕ) (words : List ℕ) → RangeBeforeLock v s bank pointer n words
-range-before-lock = Tables.range-before-lock
-
-pub standings : (stored given : ℕ) → Standings stored given
-standings = Tables.standings
-
-pub new-pair : (action old : ℕ) → NewPair action old
-new-pair = Tables.new-pair
-
 pub permalock-rule : PermalockRule
-permalock-rule = Tables.permalock-rule
+permalock-rule = Permalocked.permalock-rule
 
 pub demand3 : Demand3
 demand3 = Secret.demand3

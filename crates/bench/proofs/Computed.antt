@@ -39,17 +39,18 @@ other : List ℕ
 unfolding hidden
 other = sets hidden 24 (bytes 8 0x11223344_55667788)
 
--- a Read, a Write and a Lock with password 00000000, and a Kill with 00000001
+-- an inventory; a Read, a Write and a Lock with password 00000000; and a Kill with 00000001
 commands : List ℕ
 commands =
-    bytes 16 0xBB_00_39_00_09_00_00_00_00_03_00_00_00_02_47_7E
+    bytes 7 0xBB_00_22_00_00_22_7E
+    ++ bytes 16 0xBB_00_39_00_09_00_00_00_00_03_00_00_00_02_47_7E
     ++ bytes 18 0xBB_00_49_00_0B_00_00_00_00_03_00_00_00_01_DE_AD_E3_7E
     ++ bytes 14 0xBB_00_82_00_07_00_00_00_00_02_00_80_0B_7E
     ++ bytes 11 0xBB_00_65_00_04_00_00_00_01_6A_7E
 
 calls : List Call
 unfolding commands
-calls = replicate 4 (call commands)
+calls = replicate 5 (call commands)
 
 output : List ℕ
 output = replicate 136 0
@@ -70,7 +71,7 @@ met =
           };
       kill-differs = omega arith;
       access-differs = omega arith;
-      four-commands = refl;
+      five-commands = refl;
     }
 
 pub demand3-can-be-met : Demand3CanBeMet

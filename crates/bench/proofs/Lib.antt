@@ -5,9 +5,9 @@ pub mod Computed
 pub mod Effects
 pub mod Histories
 pub mod Parts
+pub mod Permalocked
 pub mod Quiet
 pub mod Secret
 pub mod Steps
-pub mod Tables
 pub mod Tallies
 pub mod Twins

@@ -1,6 +1,6 @@
 -- The claims page: all that is promised of the machine, each as a named statement with the papers' words beside it. Who trusts
 -- the prover reads this page and the definitions that it cites. Each statement is proved in proofs/Claimed.antt.
-use Prim.Native.Nat.{ℕ, _+_, _*_, _/_, _%_, _^_, _≤_, _<_}
+use Prim.Native.Nat.{ℕ, _+_, _*_, _/_, _%_, _≤_, _<_}
 use mathlib.Core.Bool.{Bool, true, false, not, _&&_, _||_}
 use mathlib.Core.List.{List, [], _∷_, map}
 use mathlib.Core.Logic.{_⊎_, _≢_}
@@ -12,18 +12,15 @@ use Rattle.bench.specs.Machine.{State, stateOf, Call, call, Step, number
 use Rattle.bench.specs.Sample.{cases, given, expected}
 use Rattle.bench.specs.Secrecy.{passwordsAt, EqualElsewhere, Hidden, accepted, noneCarries, SameCall, Throughout}
 use Rattle.bench.specs.declared.tally.Tally.{Tally}
-use Rattle.frame.specs.Bytes.{pick, byte, number, part, twoBytes}
+use Rattle.frame.specs.Bytes.{pick, firstOf, byte, number, part, twoBytes}
 use Rattle.frame.specs.Finding.{codeIn, parametersIn}
 use Rattle.frame.specs.Frames.{sum}
 use Rattle.tag.specs.Answers.{answer}
-use Rattle.tag.specs.Commands.{bankIn, pointerIn, countIn, dataIn, ldIn, gone, readVerdict, writeVerdict}
+use Rattle.tag.specs.Claims.{comesTo}
+use Rattle.tag.specs.Commands.{bankIn, pointerIn, countIn, dataIn, ldIn}
 use Rattle.tag.specs.Image.{good, view, bankOf, endOf, wordAt, killPassword, accessPassword}
-use Rattle.tag.specs.Locks.{pairs, bitsOf, standingOf, isWrong, allows, mayRead, mayWrite, newPair, newPairs}
-use Rattle.tag.specs.declared.commands.Act.the-variants.{TagError}
-use Rattle.tag.specs.declared.image.View.{View}
+use Rattle.tag.specs.Locks.{pairs, bitsOf, newPairs}
 use Rattle.tag.specs.declared.locks.Pairs.{Pairs}
-use Rattle.tag.specs.declared.locks.Standing.{Standing}
-use Rattle.tag.specs.declared.locks.Standing.the-variants.{Secured, Open, Wrong}
 
 -- the answer number of a call, and the code and parameters of the command in front of it
 abbrev pub answerOf : Call → State → ℕ
@@ -36,11 +33,6 @@ abbrev pub parametersOf : Call → State → List ℕ
 parametersOf c s = parametersIn (restOf c s)
 
 -- ---- Demand 1: every call ends with one named answer
-
--- the first row whose test holds gives the value; where none holds, the last one is given
-unfoldable pub firstOf {ℓ} : {X : Type ℓ} → List (Bool × X) → X → X
-firstOf [] last = last
-firstOf (row ∷ rows) last = pick (row .0) (row .1) (firstOf rows last)
 
 -- "Tests in the order 10, 11, 12, 13, then the finding rules; each is given exactly then." Finding: "1. nothing left", "2. first byte
 -- not BB", "3. second byte there and not 00", "4. five bytes there and PL above 80", "5. frame not all there", "6. check wrong, or
@@ -147,6 +139,15 @@ Bound =
 abbrev pub Starred : Type 0
 Starred = (map given cases ≡ map expected cases) × (length cases ≡ 15)
 
+-- An accepted command comes to what the tables of the tag's claims page say of it, in frame and image: its code is byte 2, and its
+-- parameters stand from byte 5 on.
+abbrev pub CommandsComeTo : Type 0
+CommandsComeTo =
+    (c : Call) (s : State)
+    → answerOf c s ≡ 0
+    → (take (step c s .length) (step c s .next .output), step c s .next .image)
+    ≡ comesTo (s .image) (byte (restOf c s) 2) (part (restOf c s) 5 (number (restOf c s) 3))
+
 -- "After every call a good image is good."
 abbrev pub GoodStaysGood : Type 0
 GoodStaysGood = (calls : List Call) (s : State) → good (s .image) ≡ true → good (after calls s .image) ≡ true
@@ -197,69 +198,7 @@ GapsStay =
     → ((bank : ℕ) → bank ≤ 3 → (i < bankOf (view (s .image)) bank .offset) ⊎ (endOf (bankOf (view (s .image)) bank) ≤ i))
     → byte (step c s .next .image) i ≡ byte (s .image) i
 
--- ---- Document 01's tables
-
--- "Pairs, from bit 9 down: kill 9,8; access 7,6; EPC 5,4; TID 3,2; User 1,0."
-abbrev pub bit : ℕ → ℕ → ℕ
-bit n k = n / 2 ^ k % 2
-
-abbrev pub PairBits : Type 0
-PairBits =
-    (n : ℕ)
-    → pairs n
-    ≡ record {
-      kill = 2 * bit n 9 + bit n 8;
-      access = 2 * bit n 7 + bit n 6;
-      epc = 2 * bit n 5 + bit n 4;
-      tid = 2 * bit n 3 + bit n 2;
-      user = 2 * bit n 1 + bit n 0;
-    }
-
--- The lock table: "00, 01" free; "10 .. only when secured"; "11 .. neither", "no write".
-pub record LockTable : Type 0 where
-  pub free-00 : (s : Standing) → allows 0b00 s ≡ true
-  pub free-01 : (s : Standing) → allows 0b01 s ≡ true
-  pub secured-10 : allows 0b10 Secured ≡ true
-  pub open-10 : allows 0b10 Open ≡ false
-  pub wrong-10 : allows 0b10 Wrong ≡ false
-  pub never-11 : (s : Standing) → allows 0b11 s ≡ false
-
-abbrev pub passwordRule : View → Standing → ℕ → ℕ → Bool
-passwordRule v s pointer n =
-    (not (ltb pointer 2) || allows (pairs (v .locks) .kill) s) && (not (ltb 2 (pointer + n)) || allows (pairs (v .locks) .access) s)
-
--- Which pair rules which region: Reserved words 0-1 are the kill password's, 2-3 the access password's, to read and to write; EPC, TID
--- and User have a pair for writing and "can always be read".
-pub record Regions (v : View) (s : Standing) (pointer n : ℕ) : Type 0 where
-  pub passwords-read : 1 ≤ n → pointer + n ≤ 4 → mayRead v s 0 pointer n ≡ passwordRule v s pointer n
-  pub passwords-write : 1 ≤ n → pointer + n ≤ 4 → mayWrite v s 0 pointer n ≡ passwordRule v s pointer n
-  pub epc-read : mayRead v s 1 pointer n ≡ true
-  pub tid-read : mayRead v s 2 pointer n ≡ true
-  pub user-read : mayRead v s 3 pointer n ≡ true
-  pub epc-write : mayWrite v s 1 pointer n ≡ allows (pairs (v .locks) .epc) s
-  pub tid-write : mayWrite v s 2 pointer n ≡ allows (pairs (v .locks) .tid) s
-  pub user-write : mayWrite v s 3 pointer n ≡ allows (pairs (v .locks) .user) s
-
--- "Testing the lock before the range" is an error: whatever the locks, words that the bank does not have answer A3 and B3.
-pub record RangeBeforeLock (v : View) (s : Standing) (bank pointer n : ℕ) (words : List ℕ) : Type 0 where
-  pub read : gone v ≡ false → isWrong s ≡ false → bankOf v bank .words < pointer + n → readVerdict v s bank pointer n ≡ TagError 0xA3
-  pub write : gone v ≡ false → isWrong s ≡ false → bankOf v bank .words < pointer + n → writeVerdict v s bank pointer n words ≡ TagError 0xB3
-
--- "A tag is secured for one command if its stored access password is zero and the command's is zero, or the command's is nonzero and
--- equal. A nonzero password that differs is wrong, also where the stored one is zero. A zero password against a nonzero stored one
--- leaves the tag open."
-pub record Standings (stored given : ℕ) : Type 0 where
-  pub both-zero : standingOf 0 0 ≡ Secured
-  pub equal : given ≢ 0 → standingOf given given ≡ Secured
-  pub differs : given ≢ 0 → given ≢ stored → standingOf stored given ≡ Wrong
-  pub zero-given : stored ≢ 0 → standingOf stored 0 ≡ Open
-
--- "A new pair takes masked bits from the action, others from the old pair."
-pub record NewPair (action old : ℕ) : Type 0 where
-  pub masked-00 : newPair 0b00 action old ≡ old
-  pub masked-01 : newPair 0b01 action old ≡ 2 * (old / 2) + action % 2
-  pub masked-10 : newPair 0b10 action old ≡ 2 * (action / 2) + old % 2
-  pub masked-11 : newPair 0b11 action old ≡ action
+-- ---- Permalocks
 
 -- "If a pair whose permalock bit is set would change: C4, nothing changes.": a Lock that is answered good keeps each such pair
 pub record Permalocks (old new : Pairs) : Type 0 where
@@ -298,12 +237,12 @@ Demand3 =
     → Premises a b output cursor tally calls
     → Throughout (SameCall a b) (run calls (stateOf a output cursor tally)) (run calls (stateOf b output cursor tally))
 
--- The premises can be met, by images that do differ, with an accepted Read, Write, Lock and Kill.
+-- The premises can be met, by images that do differ, with an accepted inventory, Read, Write, Lock and Kill.
 pub record PremisesMet (a b output : List ℕ) (calls : List Call) : Type 0 where
   pub premises : Premises a b output 0 freshTally calls
   pub kill-differs : killPassword a ≢ killPassword b
   pub access-differs : accessPassword a ≢ accessPassword b
-  pub four-commands : map (λ m. m .code) (accepted calls (stateOf a output 0 freshTally)) ≡ 0x39 ∷ 0x49 ∷ 0x82 ∷ 0x65 ∷ []
+  pub five-commands : map (λ m. m .code) (accepted calls (stateOf a output 0 freshTally)) ≡ 0x22 ∷ 0x39 ∷ 0x49 ∷ 0x82 ∷ 0x65 ∷ []
 
 abbrev pub Demand3CanBeMet : Type 0
 Demand3CanBeMet = (a : List ℕ) × (b : List ℕ) × (output : List ℕ) × (calls : List Call) × PremisesMet a b output calls

@@ -1,4 +1,5 @@
 pub mod Accepting
+pub mod Claimed
 pub mod Closings
 pub mod Copies
 pub mod Finds

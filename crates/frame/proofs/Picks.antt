@@ -27,3 +27,19 @@ pub pick-not-both {ℓ} : {X : Type ℓ} (a b : Bool) (x y : X) → pick (not (a
 unfolding pick
 pick-not-both true b x y = refl
 pick-not-both false b x y = refl
+
+-- a choice the other way round; and one after a test "both" or "all three", as the choices that fail first
+pub pick-not {ℓ} : {X : Type ℓ} (a : Bool) (x y : X) → pick a x y ≡ pick (not a) y x
+unfolding pick
+pick-not true x y = refl
+pick-not false x y = refl
+
+pub pick-both {ℓ} : {X : Type ℓ} (a b : Bool) (x y : X) → pick (a && b) x y ≡ pick (not a) y (pick (not b) y x)
+unfolding pick
+pick-both true b x y = pick-not b x y
+pick-both false b x y = refl
+
+pub pick-all-three {ℓ} : {X : Type ℓ} (a b c : Bool) (x y : X) → pick (a && (b && c)) x y ≡ pick (not a) y (pick (not b) y (pick (not c) y x))
+unfolding pick
+pick-all-three true b c x y = pick-both b c x y
+pick-all-three false b c x y = refl

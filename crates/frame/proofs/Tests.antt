@@ -1,7 +1,8 @@
 -- Laws of tests joined by "and", and of lists of tests.
 use Prim.Native.Nat.{ℕ, zero, suc}
 use lib.ListN.{getD}
-use borrow.Author.Tests.{not-true, not-false}
+use borrow.Author.Tests.{not-true, not-false, ltb-true, ltb-false, le-leb, lt-leb}
+use lib.Dec.{leb, ltb}
 use mathlib.Core.Bool.{Bool, true, false, not, _&&_, _||_}
 use mathlib.Core.List.{List, [], _∷_}
 use mathlib.Core.Path.{_≡_, refl, sym, _∙_}
@@ -45,6 +46,9 @@ all-nil = refl
 pub either {ℓ} : {C : Type ℓ} (test : Bool) → (test ≡ true → C) → (test ≡ false → C) → C
 either true yes-case no-case = yes-case refl
 either false yes-case no-case = no-case refl
+
+pub not-leb : (a b : ℕ) → not (leb a b) ≡ ltb b a
+not-leb a b = either (ltb b a) (λ h. rw (h, lt-leb a b (ltb-true b a h))) (λ h. rw (h, le-leb a b (ltb-false b a h)))
 
 -- ---- what a call's answer, tested by an `if`, says of the definition that it is promised to equal
 

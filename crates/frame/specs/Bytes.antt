@@ -10,6 +10,11 @@ unfoldable pub pick {ℓ} : {X : Type ℓ} → Bool → X → X → X
 pick true x y = x
 pick false x y = y
 
+-- the first row whose test holds gives the value; where none holds, the last one is given
+unfoldable pub firstOf {ℓ} : {X : Type ℓ} → List (Bool × X) → X → X
+firstOf [] last = last
+firstOf (row ∷ rows) last = pick (row .0) (row .1) (firstOf rows last)
+
 -- every test of a list holds
 unfoldable pub all : List Bool → Bool
 all [] = true

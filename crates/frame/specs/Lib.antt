@@ -1,4 +1,5 @@
 pub mod Bytes
+pub mod Claims
 pub mod Closing
 pub mod Copying
 pub mod Finding

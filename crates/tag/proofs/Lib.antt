@@ -2,9 +2,16 @@ pub mod AnswerBytes
 pub mod Banks
 pub mod Cases
 pub mod Changes
+pub mod Claimed
+pub mod CommandRows
 pub mod Data
 pub mod GoodImages
+pub mod ImageTable
 pub mod LockPairs
+pub mod LockWords
 pub mod Places
+pub mod RawLocks
+pub mod RawTests
 pub mod Reach
+pub mod Rows
 pub mod StaysGood

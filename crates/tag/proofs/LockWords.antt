@@ -1,28 +1,24 @@
--- Document 01's tables: lock pairs, regions, standings, new pairs, and the permalock rule.
+-- The definitions' own words for locks: pairs, the lock table, regions, standings and new pairs.
 use Prim.Native.Nat.{ℕ, _+_, _*_, _/_, _%_, _<_}
-use borrow.Author.Tests.{eq-eqb, ne-eqb, eqb-true, lt-ltb, not-false}
-use lib.Dec.{eqb}
-use mathlib.Core.Bool.{Bool, false, not, _||_, and-true}
+use borrow.Author.Tests.{eq-eqb, ne-eqb, lt-ltb}
+use mathlib.Core.Bool.{and-true}
 use mathlib.Core.List.{List}
 use mathlib.Core.Path.{_≡_, refl, sym}
 use native.Mathlib.Nat.{div-div-eq-div-mul}
 use native.Mathlib.Omega.{arith}
-use Rattle.bench.proofs.Effects.{lock-keeps}
-use Rattle.bench.specs.Claims.{PairBits, LockTable, Regions, RangeBeforeLock, Standings, NewPair, Permalocks, PermalockRule}
 use Rattle.frame.proofs.Picks.{pick-true, pick-false}
-use Rattle.frame.proofs.Tests.{and-second, or-neither}
 use Rattle.frame.specs.Bytes.{pick}
+use Rattle.tag.specs.Claims.{PairBits, LockTable, Regions, RangeBeforeLock, Standings, NewPair}
 use Rattle.tag.specs.Commands.{outside, readVerdict, writeVerdict}
-use Rattle.tag.specs.Locks.{pairs, permalocked, standingOf, isSecured, allows, touches, mayTouchPasswords, mayRead, mayWrite, newBit, newPair, breaks, breaksPermalock}
+use Rattle.tag.specs.Locks.{pairs, standingOf, isSecured, allows, touches, mayTouchPasswords, mayRead, mayWrite, newBit, newPair}
 use Rattle.tag.specs.declared.image.View.{View}
-use Rattle.tag.specs.declared.locks.Pairs.{Pairs}
 use Rattle.tag.specs.declared.locks.Standing.{Standing}
 
 -- a pair is its two bits; k is half the weight of the upper one
-two-bits : (n k : ℕ) → 0 < k → n / k % 4 ≡ 2 * (n / (k * 2) % 2) + n / k % 2
+pub two-bits : (n k : ℕ) → 0 < k → n / k % 4 ≡ 2 * (n / (k * 2) % 2) + n / k % 2
 two-bits n k pos = omega (arith, sym (div-div-eq-div-mul n k 2))
 
-lowest-bits : (n : ℕ) → n % 4 ≡ 2 * (n / 2 % 2) + n / 1 % 2
+pub lowest-bits : (n : ℕ) → n % 4 ≡ 2 * (n / 2 % 2) + n / 1 % 2
 lowest-bits n = omega arith
 
 pub pair-bits : PairBits
@@ -75,30 +71,3 @@ standings stored given =
 pub new-pair : (action old : ℕ) → NewPair action old
 unfolding newPair newBit pick
 new-pair action old = record { masked-00 = omega arith; masked-01 = omega arith; masked-10 = omega arith; masked-11 = omega arith }
-
--- a pair that is not broken, with its permalock bit set, is the old one
-unbroken : (old new : ℕ) → breaks old new ≡ false → old % 2 ≡ 1 → new ≡ old
-unfolding breaks permalocked
-unbroken old new h set = eqb-true _ _ (not-false _ (and-second (eqb (old % 2) 1) (not (eqb new old)) (eq-eqb _ _ set) h))
-
-permalocks : (old new : Pairs) → breaksPermalock old new ≡ false → Permalocks old new
-unfolding breaksPermalock
-permalocks old new h =
-    let kill : Bool = breaks (old .kill) (new .kill) in
-    let access : Bool = breaks (old .access) (new .access) in
-    let epc : Bool = breaks (old .epc) (new .epc) in
-    let tid : Bool = breaks (old .tid) (new .tid) in
-    let last : ((kill || access || epc || tid) ≡ false) × (breaks (old .user) (new .user) ≡ false) = or-neither _ _ h in
-    let fourth : ((kill || access || epc) ≡ false) × (tid ≡ false) = or-neither _ _ (last .0) in
-    let third : ((kill || access) ≡ false) × (epc ≡ false) = or-neither _ _ (fourth .0) in
-    let second : (kill ≡ false) × (access ≡ false) = or-neither _ _ (third .0) in
-    record {
-      kill = unbroken _ _ (second .0);
-      access = unbroken _ _ (second .1);
-      epc = unbroken _ _ (third .1);
-      tid = unbroken _ _ (fourth .1);
-      user = unbroken _ _ (last .1);
-    }
-
-pub permalock-rule : PermalockRule
-permalock-rule c s code good = permalocks _ _ (lock-keeps c s code .1 good)
