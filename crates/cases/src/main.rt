@@ -11,7 +11,7 @@ use samples::TRUNCATED;
 
 fn run(heading: &[u8], commands: &[u8], image: &mut [u8]) {
     io::write_all(STDOUT_FILENO, heading);
-    console::print(commands, image);
+    console::print(true, commands, image);
 }
 
 fn on_sample(heading: &[u8], commands: &[u8]) {

@@ -1,17 +1,24 @@
--- What printing a report leaves. No contract can say what standard output took; the image is that after some number of calls, and where
--- the commands or the image are too long, no call is made.
-use Prim.Native.Nat.{ℕ}
-use mathlib.Core.Bool.{true, false}
+-- What printing a report leaves. No contract can say what standard output took; the result does. The image is that of the whole run where
+-- it is true, and else that after some of the run's calls. Files that are not run leave the image as it is.
+use Prim.Native.Nat.{ℕ, _≤_}
+use mathlib.Core.Bool.{Bool, true, false}
 use mathlib.Core.List.{List}
+use mathlib.Core.Logic.{_≢_}
 use mathlib.Core.Path.{_≡_}
 use lib.ListN.{length, replicate}
 use Rattle.bench.specs.Counts.{freshTally}
-use Rattle.bench.specs.Machine.{stateOf, call, after}
-use Rattle.report.specs.Report.{fresh, tooLong}
+use Rattle.bench.specs.Machine.{State, stateOf, call, after}
+use Rattle.report.specs.Report.{stepsFrom, lastState, fresh, filesOf}
+use Rattle.report.specs.declared.limits.Files.the-variants.{Fit}
 
-pub record RanFrom (commands image output left : List ℕ) : Type 0 where
-  pub calls : (k : ℕ) × (left ≡ after (replicate k (call commands)) (stateOf image output 0 freshTally) .image)
+-- a run from the state s that leaves the image `left`
+pub record RunFrom (commands : List ℕ) (s : State) (left : List ℕ) (whole : Bool) : Type 0 where
+  pub all-calls : whole ≡ true → left ≡ lastState commands false s .image
+  pub some-calls : (k : ℕ) × (k ≤ length (stepsFrom commands false s)) × (left ≡ after (replicate k (call commands)) s .image)
 
-pub record Ran (commands image left : List ℕ) : Type 0 where
-  pub too-long : tooLong (length commands) (length image) ≡ true → left ≡ image
-  pub calls : tooLong (length commands) (length image) ≡ false → (k : ℕ) × (left ≡ after (replicate k (call commands)) (fresh image) .image)
+abbrev pub RanFrom : List ℕ → List ℕ → List ℕ → List ℕ → Bool → Type 0
+RanFrom commands image output left whole = RunFrom commands (stateOf image output 0 freshTally) left whole
+
+pub record Ran (readable : Bool) (commands image left : List ℕ) (whole : Bool) : Type 0 where
+  pub not-run : filesOf readable (length commands) (length image) ≢ Fit → left ≡ image
+  pub run : filesOf readable (length commands) (length image) ≡ Fit → RunFrom commands (fresh image) left whole

@@ -1,6 +1,8 @@
 // The report of a run on standard output.
 use libc::STDOUT_FILENO;
-use report::limits::too_long;
+use report::limits::Files;
+use report::limits::judge;
+use report::limits::write_notice;
 use report::writing::Progress;
 use report::writing::write;
 ghost use Prim.Native.Nat.{_≤_};
@@ -9,30 +11,43 @@ ghost use Rattle.console.specs.Console.{Ran, RanFrom};
 
 // Piece by piece. Where standard output refuses some of the report, nothing more is written, so that no report ends with its counts and
 // lacks a line.
-fn print_pieces(commands: &[u8], image: &mut [u8], output: &mut [u8], buffer: &mut [u8])
+fn print_pieces(commands: &[u8], image: &mut [u8], output: &mut [u8], buffer: &mut [u8]) -> bool
     requires { ⌜ 408 ≤ length (now buffer) ⌝ }
-    ensures { λ _. ⌜ RanFrom (now (commands .entry)) (now (image .entry)) (now (output .entry)) (now (image .exit)) ⌝ }
+    ensures { λ r. ⌜ RanFrom (now (commands .entry)) (now (image .entry)) (now (output .entry)) (now (image .exit)) r ⌝ }
 {
     let mut progress = Progress::start();
     while !progress.over {
         let written = write(commands, image, output, buffer, progress);
         let used = written.used;
         if !io::write_all(STDOUT_FILENO, &buffer[..used]) {
-            return;
+            return false;
         }
         progress = written.progress;
     }
+    true
 }
 
-// Prints the report of these commands on this image. Too long commands or a too long image change nothing.
-pub fn print(commands: &[u8], image: &mut [u8])
-    ensures { λ _. ⌜ Ran (now (commands .entry)) (now (image .entry)) (now (image .exit)) ⌝ }
+// The line of files that are not run.
+fn print_notice(files: Files, buffer: &mut [u8]) -> bool
+    requires { ⌜ 408 ≤ length (now buffer) ⌝ }
 {
-    if too_long(commands.len(), image.len()) {
-        io::write_all(STDOUT_FILENO, b"TOO LONG\n");
-        return;
-    }
-    let mut output = [0u8; 136];
+    let used = write_notice(files, buffer);
+    io::write_all(STDOUT_FILENO, &buffer[..used])
+}
+
+// Prints the report of these commands on this image; `readable` says whether both were read to their ends. The result says whether
+// standard output took all of it.
+pub fn print(readable: bool, commands: &[u8], image: &mut [u8]) -> bool
+    ensures { λ r. ⌜ Ran readable (now (commands .entry)) (now (image .entry)) (now (image .exit)) r ⌝ }
+{
     let mut buffer = io::large_buffer();
-    print_pieces(commands, image, &mut output, &mut buffer);
+    let files = judge(readable, commands.len(), image.len());
+    match files {
+        Files::Unreadable => print_notice(files, &mut buffer),
+        Files::TooLong => print_notice(files, &mut buffer),
+        Files::Fit => {
+            let mut output = [0u8; 136];
+            print_pieces(commands, image, &mut output, &mut buffer)
+        }
+    }
 }

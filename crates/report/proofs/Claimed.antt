@@ -2,18 +2,32 @@
 use Rattle.report.proofs.Counted as Counted
 use Rattle.report.proofs.Decimals as Decimals
 use Rattle.report.proofs.LinesOfCalls as LinesOfCalls
+use Rattle.report.proofs.NotRun as NotRun
 use Rattle.report.proofs.Sampled as Sampled
+use Rattle.report.proofs.Together as Together
 use Rattle.report.proofs.Whole as Whole
-use Rattle.report.specs.Claims.{SampleReport, EmptyImage, TooLongReport, HexDigits, OneDigit, MoreDigits, FrameLines, DropLines, CountLines, RefusedLines, LineByLine, GoodImageReport, BadImageReport, CountsAreLines, BytesAddUp}
+use Rattle.report.specs.Claims.{SampleReport, SampleImage, EmptyImage, TooLongReport, UnreadableReport, NoticeAlone, RunPrinted, HexDigits, OneDigit, MoreDigits, FrameLines, DropLines, CountLines, RefusedLines, LineByLine, GoodImageReport, BadImageReport, CountsAreLines, BytesAddUp, PieceByPiece, ShortBuffer, NothingLeft, PiecesAreTheReport, EnoughPieces}
 
 pub sample-report : SampleReport
 sample-report = Sampled.sample-report
+
+pub sample-image : SampleImage
+sample-image = Sampled.sample-image
 
 pub empty-image : EmptyImage
 empty-image = Sampled.empty-image
 
 pub too-long-report : TooLongReport
 too-long-report = Whole.too-long-report
+
+pub unreadable-report : UnreadableReport
+unreadable-report = NotRun.unreadable-report
+
+pub notice-alone : NoticeAlone
+notice-alone = NotRun.notice-alone
+
+pub run-printed : RunPrinted
+run-printed = NotRun.run-printed
 
 pub hex-digits : HexDigits
 hex-digits = Decimals.hex-digits
@@ -50,3 +64,18 @@ counts-are-lines = Counted.counts-are-lines
 
 pub bytes-add-up : BytesAddUp
 bytes-add-up = Counted.bytes-add-up
+
+pub piece-by-piece : PieceByPiece
+piece-by-piece = Together.piece-by-piece
+
+pub short-buffer : ShortBuffer
+short-buffer = Together.short-buffer
+
+pub nothing-left : NothingLeft
+nothing-left = Together.nothing-left
+
+pub pieces-are-the-report : PiecesAreTheReport
+pieces-are-the-report = Together.pieces-are-the-report
+
+pub enough-pieces : EnoughPieces
+enough-pieces = Together.enough-pieces

@@ -1,40 +1,40 @@
 -- The report in pieces: what holds of the buffer and the state at every line.
 use Prim.Native.Nat.{ℕ, zero, suc, _+_, _-_, _≤_, _<_}
-use lib.ListN.{length, take, drop, replicate, length-append}
-use lib.Seq.{sets-eq, length-sets, length-take-le, take-at, drop-drop}
+use borrow.Author.Tests.{lt-ltb, le-ltb, eqb-true, eqb-false, eq-eqb, ne-eqb}
+use lib.Dec.{eqb}
+use lib.ListN.{length, drop, replicate}
+use lib.Seq.{sets-eq, length-sets}
 use mathlib.Core.Bool.{Bool, true, false}
-use mathlib.Core.List.{List, _++_, append-assoc}
-use mathlib.Core.Logic.{_⊎_, inl, inr, ⊎-elim}
+use mathlib.Core.List.{List, [], _++_, append-assoc, append-nil}
 use mathlib.Core.Path.{_≡_, refl, ap, sym, _∙_}
+use native.Mathlib.Nat.{zero-add, sub-zero}
 use native.Mathlib.Omega.{arith}
 use Rattle.bench.specs.Machine.{State, Call, call, Step, step, after}
 use Rattle.execution.specs.Putting.{Put}
 use Rattle.frame.proofs.Picks.{pick-true, pick-false}
-use Rattle.frame.proofs.Stores.{drop-sets-behind}
 use Rattle.frame.proofs.Tests.{either}
 use Rattle.frame.specs.Bytes.{pick}
-use Rattle.report.proofs.Reports.{never, moves, report-more}
+use Rattle.frame.specs.Frames.{written}
+use Rattle.report.proofs.Fitting.{over-is, no-room, piece-over, piece-more}
+use Rattle.report.proofs.Puts.{put-join}
+use Rattle.report.proofs.Reports.{moves, one-left}
 use Rattle.report.specs.Lines.{lineOf, ends}
-use Rattle.report.specs.Report.{reportFrom}
-use Rattle.report.specs.Writing.{OneLine, Wrote}
+use Rattle.report.specs.Pieces.{pieceOf, leftBy, overBy}
+use Rattle.report.specs.Report.{stepsFrom, linesOf}
+use Rattle.report.specs.Writing.{OneLine, roomIn, Wrote}
 use Rattle.report.specs.declared.writing.Progress.{Progress}
+use Rattle.report.specs.declared.writing.Room.{Room}
 use Rattle.report.specs.declared.writing.Room.the-variants.{Enough, TooShort}
 use Rattle.report.specs.declared.writing.Written.{Written}
 
--- ---- a line that was put
-
-module _ (line before after : List ℕ) (at next : ℕ) (put : Put line at before after next) (fits : next ≤ length before) where
-  inside : at + length line ≤ length before
-  inside = omega (arith, put .next-is)
-
-  pub take-put : take next after ≡ take at before ++ line
-  take-put =
-      ap (λ (l : List ℕ). take next l) (put .output-is ∙ sets-eq line before at inside)
-      ∙ take-at (take at before ++ line) (drop (at + length line) before) next
-      (length-append (take at before) line ∙ omega (arith, length-take-le at before (omega (arith, inside)), put .next-is))
-
-  pub drop-put : drop next after ≡ drop next before
-  drop-put = ap (λ (l : List ℕ). drop next l) (put .output-is) ∙ drop-sets-behind next before at line (omega (arith, put .next-is))
+-- what was put at the start of the buffer is written there
+pub put-first : (bytes before new : List ℕ) (used : ℕ) → Put bytes 0 before new used → length bytes ≤ length before
+    → (used ≡ length bytes) × (new ≡ written bytes before)
+unfolding written
+put-first bytes before new used put room = (
+  omega (arith, put .next-is),
+  put .output-is ∙ sets-eq bytes before 0 (omega arith) ∙ ap (λ (n : ℕ). bytes ++ drop n before) (zero-add (length bytes)),
+)
 
 -- one call more
 one-more : (c : Call) (k : ℕ) (s : State) → step c (after (replicate k c) s) .next ≡ after (replicate (suc k) c) s
@@ -43,53 +43,60 @@ one-more c zero s = refl
 one-more c (suc k) s = one-more c k (step c s .next)
 
 module _ (input before : List ℕ) (start : State) (over₀ : Bool) where
+  -- some calls were made and their lines put; what the rest of the buffer takes from here on is the rest of the piece
   pub record Going (buffer : List ℕ) (used : ℕ) (s : State) (over : Bool) : Type 0 where
-    pub same : length buffer ≡ length before
+    pub bytes : List ℕ
+    pub calls : ℕ
+    pub put : Put bytes 0 before buffer used
     pub within : used ≤ length before
-    pub bytes : take used buffer ++ reportFrom input over s ≡ reportFrom input over₀ start
-    pub behind-stays : drop used buffer ≡ drop used before
-    pub some : (0 < used) ⊎ (over ≡ over₀)
-    pub stays-over : over₀ ≡ true → (s ≡ start) × (over ≡ true) × (used ≡ 0)
-    pub calls : (k : ℕ) × (s ≡ after (replicate k (call input)) start)
+    pub same : length buffer ≡ length before
+    pub made : s ≡ after (replicate calls (call input)) start
+    pub lines : linesOf input start (pieceOf input (length before) over₀ start) ≡ bytes ++ linesOf input s (pieceOf input (length before - used) over s)
+    pub piece : length (pieceOf input (length before) over₀ start) ≡ calls + length (pieceOf input (length before - used) over s)
+    pub left : length (stepsFrom input over₀ start) ≡ calls + length (stepsFrom input over s)
 
   pub going : Going before 0 start over₀
   unfolding after
-  going = record { same = refl; within = omega arith; bytes = refl; behind-stays = refl; some = inr refl; stays-over = λ h. (refl, h, refl); calls = (0, refl) }
+  going =
+      record {
+        bytes = [];
+        calls = 0;
+        put = record { output-is = refl; next-is = refl };
+        within = omega arith;
+        same = refl;
+        made = refl;
+        lines = rw sub-zero;
+        piece = rw (sub-zero, zero-add);
+        left = omega arith;
+      }
+
+  -- one call more, and its line
+  further : (buffer after : List ℕ) (used next : ℕ) (s : State) → Going buffer used s false → used + 408 ≤ length before → next ≤ length before
+      → Put (lineOf input s (step (call input) s)) used buffer after next
+      → Going after next (step (call input) s .next) (ends (step (call input) s .outcome))
+  unfolding linesOf
+  further buffer after used next s g room within put =
+      let x : Step = step (call input) s in
+      let line : List ℕ = lineOf input s x in
+      let behind : length before - used - length line ≡ length before - next = omega (arith, put .next-is) in
+      let piece = piece-more input (length before - used) s (omega arith) in
+      record {
+        bytes = g .bytes ++ line;
+        calls = suc (g .calls);
+        put = put-join (g .bytes) line 0 before buffer after used next (g .put) put;
+        within = within;
+        same = ap length (put .output-is) ∙ length-sets buffer used line ∙ g .same;
+        made = ap (λ (t : State). step (call input) t .next) (g .made) ∙ one-more (call input) (g .calls) start;
+        lines = g .lines ∙ rw (piece, behind) (sym (append-assoc (g .bytes) line _));
+        piece = g .piece ∙ rw (piece, behind) (omega arith);
+        left = g .left ∙ rw (one-left input s) (omega arith);
+      }
 
   pub goes : (buffer after : List ℕ) (used : ℕ) (s next : State) (over : Bool) (r : Written) → Going buffer used s over → over ≡ false → used + 408 ≤ length buffer
       → OneLine input s used buffer after next r → Going after (r .used) next (r .progress .over)
   goes buffer after used s next over r g not-over room one =
-      let put = one .line .put in
-      let x : Step = step (call input) s in
-      let line : List ℕ = lineOf input s x in
-      let fits : r .used ≤ length buffer = omega (arith, one .line .most) in
-      let m : ℕ = r .used - used in
-      let sum : used + m ≡ r .used = omega (arith, one .line .some) in
-      record {
-        same = ap length (put .output-is) ∙ length-sets buffer used line ∙ g .same;
-        within = omega (arith, g .same);
-        bytes =
-            ap (λ (l : List ℕ). l ++ reportFrom input (r .progress .over) next) (take-put line buffer after used (r .used) put fits)
-            ∙ append-assoc (take used buffer) line (reportFrom input (r .progress .over) next)
-            ∙ ap (λ (b : Bool). take used buffer ++ (line ++ reportFrom input b next)) (one .over-is)
-            ∙ ap (λ (t : State). take used buffer ++ (line ++ reportFrom input (ends (x .outcome)) t)) (one .next-is)
-            ∙ ap (λ (l : List ℕ). take used buffer ++ l) (sym (report-more input s))
-            ∙ ap (λ (b : Bool). take used buffer ++ reportFrom input b s) (sym not-over)
-            ∙ g .bytes;
-        behind-stays =
-            drop-put line buffer after used (r .used) put fits
-            ∙ ap (λ (n : ℕ). drop n buffer) (sym sum)
-            ∙ sym (drop-drop m used buffer)
-            ∙ ap (λ (l : List ℕ). drop m l) (g .behind-stays)
-            ∙ drop-drop m used before
-            ∙ ap (λ (n : ℕ). drop n before) sum;
-        some = inl (omega (arith, one .line .some));
-        stays-over = λ h. absurd (never (sym (g .stays-over h .1) ∙ not-over));
-        calls = (
-          suc (g .calls .0),
-          one .next-is ∙ ap (λ (t : State). step (call input) t .next) (g .calls .1) ∙ one-more (call input) (g .calls .0) start,
-        );
-      }
+      rw (one .next-is, one .over-is)
+      (further buffer after used (r .used) s (rw not-over at g) (omega (arith, g .same)) (omega (arith, g .same, one .line .most)) (one .line .put))
 
 -- each line leaves less to write
 pub falls : (input buffer after : List ℕ) (at : ℕ) (s next : State) (over : Bool) (r : Written) → over ≡ false → OneLine input s at buffer after next r
@@ -103,30 +110,49 @@ falls input buffer after at s next over r not-over one =
 
 -- ---- what a call of `write` comes to
 
-module _ (input before : List ℕ) (start : State) (p : Progress) where
-  pub too-short : length before < 408 → Wrote input before before start p start record { room = TooShort; used = 0; progress = p }
-  too-short h =
-      record { short = λ k. record { refused = refl; buffer-stays = refl; state-stays = refl }; long = λ k. absurd (omega arith) }
+eqb-more : (k n : ℕ) → eqb 0 n ≡ eqb k (k + n)
+eqb-more k n =
+    either (eqb 0 n) (λ none. none ∙ sym (eq-eqb k (k + n) (omega (arith, eqb-true 0 n none))))
+    (λ some. some ∙ sym (ne-eqb k (k + n) (λ e. eqb-false 0 n some (omega arith))))
 
-  pub pieced : (buffer : List ℕ) (used : ℕ) (s : State) (q : Progress) → 408 ≤ length before → Going input before start (p .over) buffer used s (q .over)
-      → (q .over ≡ false → length before < used + 408) → Wrote input before buffer start p s record { room = Enough; used = used; progress = q }
-  pieced buffer used s q room g filled =
+module _ (input before : List ℕ) (start : State) (over₀ : Bool) where
+  -- the rest of the buffer takes no more
+  full : (buffer : List ℕ) (used : ℕ) (s : State) (q : Progress) (room : Room) → room ≡ roomIn (length before)
+      → Going input before start over₀ buffer used s (q .over)
+      → pieceOf input (length before - used) (q .over) s ≡ [] → Wrote input before buffer start over₀ s record { room = room; used = used; progress = q }
+  unfolding linesOf leftBy overBy
+  full buffer used s q room room-is g none =
+      let bytes : linesOf input start (pieceOf input (length before) over₀ start) ≡ g .bytes
+      = g .lines ∙ rw none (append-nil (g .bytes)) in
+      let calls : length (pieceOf input (length before) over₀ start) ≡ g .calls = g .piece ∙ rw none (omega arith) in
+      let first = put-first (g .bytes) before buffer used (g .put) (omega (arith, g .within, g .put .next-is)) in
       record {
-        short = λ k. absurd (omega arith);
-        long =
-            λ k.
-            record {
-              enough = refl;
-              within = g .within;
-              bytes = g .bytes;
-              behind-stays = g .behind-stays;
-              some = λ fresh. ⊎-elim (λ positive. positive) (λ same. omega (arith, filled (same ∙ fresh))) (g .some);
-              filled = filled;
-              stays-over = g .stays-over;
-              calls = g .calls;
-            };
+        room-is = room-is;
+        used-is = rw bytes (first .0);
+        within = g .within;
+        buffer-is = rw bytes (first .1);
+        next-is = g .made ∙ ap (λ (k : ℕ). after (replicate k (call input)) start) (sym calls);
+        over-is =
+            over-is input (q .over) s ∙ eqb-more (g .calls) (length (stepsFrom input (q .over) s)) ∙ rw (calls, g .left);
       }
 
-  pub ended : (buffer : List ℕ) (used : ℕ) (s : State) (q : Progress) → 408 ≤ length before → Going input before start (p .over) buffer used s (q .over)
-      → q .over ≡ true → Wrote input before buffer start p s record { room = Enough; used = used; progress = q }
-  ended buffer used s q room g over = pieced buffer used s q room g (λ h. absurd (never (sym over ∙ h)))
+  enough : 408 ≤ length before → Enough ≡ roomIn (length before)
+  unfolding roomIn
+  enough h = simp (le-ltb (length before) 408 h, pick-false)
+
+  pub filled : (buffer : List ℕ) (used : ℕ) (s : State) (q : Progress) → 408 ≤ length before → Going input before start over₀ buffer used s (q .over)
+      → length buffer < used + 408 → Wrote input before buffer start over₀ s record { room = Enough; used = used; progress = q }
+  filled buffer used s q room g little =
+      full buffer used s q Enough (enough room) g (no-room input (length before - used) (q .over) s (omega (arith, g .within, g .same)))
+
+  pub ended : (buffer : List ℕ) (used : ℕ) (s : State) (q : Progress) → 408 ≤ length before → Going input before start over₀ buffer used s (q .over)
+      → q .over ≡ true → Wrote input before buffer start over₀ s record { room = Enough; used = used; progress = q }
+  ended buffer used s q room g over =
+      full buffer used s q Enough (enough room) g (rw over (piece-over input (length before - used) s))
+
+pub too-short : (input before : List ℕ) (start : State) (p : Progress) → length before < 408
+    → Wrote input before before start (p .over) start record { room = TooShort; used = 0; progress = p }
+unfolding roomIn
+too-short input before start p h =
+    full input before start (p .over) before 0 start p TooShort (simp (lt-ltb (length before) 408 h, pick-true)) (going input before start (p .over))
+    (no-room input (length before - 0) (p .over) start (omega arith))

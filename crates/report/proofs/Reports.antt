@@ -1,7 +1,7 @@
 -- The report without a bound on its calls: a line, and the report from the state that the call left.
 use Prim.Native.Nat.{ℕ, zero, suc, _-_, _≤_, _<_}
 use lib.ListN.{length, length-drop}
-use mathlib.Core.Bool.{Bool, true, false}
+use mathlib.Core.Bool.{true, false}
 use mathlib.Core.List.{List, [], _∷_, _++_}
 use mathlib.Core.Logic.{_⊎_, inl, inr, ⊎-elim}
 use mathlib.Core.Path.{_≡_, refl, ap, _∙_}
@@ -15,9 +15,9 @@ use Rattle.frame.proofs.Picks.{pick-true, pick-false}
 use Rattle.frame.proofs.Tests.{either}
 use Rattle.frame.specs.Bytes.{pick}
 use Rattle.report.specs.Lines.{lineOf, ends}
-use Rattle.report.specs.Report.{stepsBy, steps, linesOf, reportFrom}
+use Rattle.report.specs.Report.{stepsBy, steps, stepsFrom, linesOf, reportFrom}
 
-pub never : true ≡ false → ⊥
+never : true ≡ false → ⊥
 never h = let z : _≡_ {A = ℕ} 0 1 = cc in omega arith
 
 -- the report goes on after an answer 0 or 3 alone
@@ -77,21 +77,21 @@ module _ (input : List ℕ) where
       ap (λ (rest : List Step). x ∷ pick (ends (x .outcome)) [] rest)
       (enough (length input - s .cursor) (suc (length input - x .next .cursor)) (x .next) (omega (arith, on .on, on .within)) (omega arith)))
 
-  lines-pick : (over : Bool) (s : State) (rest : List Step) → linesOf input s (pick over [] rest) ≡ pick over [] (linesOf input s rest)
-  unfolding pick linesOf
-  lines-pick true s rest = refl
-  lines-pick false s rest = refl
+  pub none-left : (s : State) → stepsFrom input true s ≡ []
+  unfolding stepsFrom
+  none-left s = pick-true [] (steps input s)
+
+  pub one-left : (s : State)
+      → stepsFrom input false s ≡ step (call input) s ∷ stepsFrom input (ends (step (call input) s .outcome)) (step (call input) s .next)
+  unfolding stepsFrom
+  one-left s = pick-false [] (steps input s) ∙ steps-more s
 
   pub report-over : (s : State) → reportFrom input true s ≡ []
-  unfolding reportFrom pick
-  report-over s = refl
+  unfolding reportFrom linesOf
+  report-over s = ap (λ (all : List Step). linesOf input s all) (none-left s)
 
   pub report-more : (s : State)
       → reportFrom input false s
       ≡ lineOf input s (step (call input) s) ++ reportFrom input (ends (step (call input) s .outcome)) (step (call input) s .next)
   unfolding reportFrom linesOf
-  report-more s =
-      let x : Step = step (call input) s in
-      pick-false [] (linesOf input s (steps input s))
-      ∙ ap (λ (all : List Step). linesOf input s all) (steps-more s)
-      ∙ ap (λ (rest : List ℕ). lineOf input s x ++ rest) (lines-pick (ends (x .outcome)) (x .next) (steps input (x .next)))
+  report-more s = ap (λ (all : List Step). linesOf input s all) (one-left s)

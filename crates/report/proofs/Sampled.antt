@@ -1,19 +1,24 @@
--- What is computed: document 01's sample report, and the report on an empty image.
+-- What is computed: document 01's sample report and the image behind it, and the report on an empty image.
 use mathlib.Core.Path.{refl}
 use Rattle.bench.proofs.Computed.{everything}
-use Rattle.report.specs.Claims.{SampleReport, EmptyImage}
+use Rattle.bench.specs.Machine.{after}
+use Rattle.report.specs.Claims.{SampleReport, SampleImage, EmptyImage}
 use Rattle.report.specs.Digits.{hexDigit, hexByte, widthBy, width, digits, decimal}
 use Rattle.report.specs.Lines.{dropWord, goodWord, errorWord, droppedWord, leftWord, refusedWord, tooLongLine, dropLine, separator, frameLine, countPart, tallyPart, countsLine, refusedLine, lineFor, lineOf, ends}
-use Rattle.report.specs.Report.{stepsBy, steps, linesOf, reportFrom, tooLong, fresh, reportOf}
+use Rattle.report.specs.Report.{stepsBy, steps, stepsFrom, linesOf, reportFrom, lastState, tooLong, fresh, reportOf}
 
 -- all that the report is made of beside the machine, opened at once
 opened : Unit {0}
-unfolding everything hexDigit hexByte widthBy width digits decimal dropWord goodWord errorWord droppedWord leftWord refusedWord tooLongLine dropLine separator frameLine countPart tallyPart countsLine refusedLine lineFor lineOf ends stepsBy steps linesOf reportFrom tooLong fresh reportOf
+unfolding everything hexDigit hexByte widthBy width digits decimal dropWord goodWord errorWord droppedWord leftWord refusedWord tooLongLine dropLine separator frameLine countPart tallyPart countsLine refusedLine lineFor lineOf ends stepsBy steps stepsFrom linesOf reportFrom tooLong fresh reportOf
 opened = tt
 
 pub sample-report : SampleReport
 unfolding opened
 sample-report = refl
+
+pub sample-image : SampleImage
+unfolding opened lastState after
+sample-image = refl
 
 pub empty-image : EmptyImage
 unfolding opened

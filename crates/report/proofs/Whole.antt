@@ -95,7 +95,7 @@ unfolding takes
 ends-by x = ⊎-elim (λ one. simp one) (λ two. simp two)
 
 module _ (commands image : List ℕ) (short : tooLong (length commands) (length image) ≡ false) where
-  report-is : reportOf commands image ≡ reportFrom commands false (fresh image)
+  pub report-is : reportOf commands image ≡ reportFrom commands false (fresh image)
   unfolding reportOf
   report-is = simp (short, pick-false)
 

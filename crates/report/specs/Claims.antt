@@ -1,21 +1,23 @@
 -- The claims page of the report: what is promised of its definition, each as a named statement with document 01's words beside it. Each
 -- is proved in proofs/Claimed.antt. That the code writes this report is the contract of `report::writing::write`.
-use Prim.Native.Nat.{ℕ, _+_, _-_, _/_, _%_, _≤_, _<_}
+use Prim.Native.Nat.{ℕ, suc, _+_, _-_, _/_, _%_, _≤_, _<_}
 use mathlib.Core.Bool.{Bool, true, false, not}
 use mathlib.Core.List.{List, [], _∷_, _++_, map}
-use mathlib.Core.Logic.{_⊎_}
+use mathlib.Core.Logic.{_⊎_, _≢_}
 use mathlib.Core.Path.{_≡_}
 use lib.Dec.{eqb}
 use lib.ListN.{length, drop, replicate}
 use Rattle.bench.specs.Claims.{answerOf, count, isDropped, takes}
 use Rattle.bench.specs.Machine.{State, call, Step, numberOf, actIn, restOf, step, run, after}
-use Rattle.bench.specs.Sample.{sample}
+use Rattle.bench.specs.Sample.{sample, killed}
 use Rattle.bench.specs.declared.outcome.Outcome.{Outcome}
 use Rattle.bench.specs.declared.outcome.Outcome.the-variants.{Answered, AtEnd, Incomplete, Dropped, PastEnd, BadImage, ShortOutput, FullTally}
 use Rattle.frame.specs.Bytes.{byte, number}
 use Rattle.report.specs.Digits.{hexDigit, decimal}
-use Rattle.report.specs.Lines.{tooLongLine, dropLine, frameLine, countsLine, refusedLine, lineOf}
-use Rattle.report.specs.Report.{linesOf, reportFrom, tooLong, fresh, reportOf}
+use Rattle.report.specs.Lines.{tooLongLine, dropLine, frameLine, countsLine, refusedLine, longestLine, lineOf}
+use Rattle.report.specs.Pieces.{pieceOf, leftBy, overBy, pieces}
+use Rattle.report.specs.Report.{linesOf, reportFrom, lastState, tooLong, fresh, reportOf, filesOf, noticeOf, printed}
+use Rattle.report.specs.declared.limits.Files.the-variants.{Fit}
 use Rattle.tag.specs.Answers.{answer}
 use Rattle.tag.specs.Image.{good}
 
@@ -40,6 +42,10 @@ sampleReport =
 abbrev pub SampleReport : Type 0
 SampleReport = reportOf sampleCommands sample ≡ sampleReport
 
+-- Its run leaves the tag killed: a report that is printed and not run is another one.
+abbrev pub SampleImage : Type 0
+SampleImage = lastState sampleCommands false (fresh sample) .image ≡ killed
+
 -- "A call answered 10 to 13 gives only `REFUSED` and the number": both files empty
 abbrev pub EmptyImage : Type 0
 EmptyImage = reportOf [] [] ≡ 82 ∷ 69 ∷ 70 ∷ 85 ∷ 83 ∷ 69 ∷ 68 ∷ 32 ∷ 49 ∷ 49 ∷ 10 ∷ []
@@ -47,6 +53,25 @@ EmptyImage = reportOf [] [] ≡ 82 ∷ 69 ∷ 70 ∷ 85 ∷ 83 ∷ 69 ∷ 68 ∷
 -- "a longer file gives only `TOO LONG`"
 abbrev pub TooLongReport : Type 0
 TooLongReport = (commands image : List ℕ) → tooLong (length commands) (length image) ≡ true → reportOf commands image ≡ tooLongLine
+
+-- "a file that can't be opened counts as empty": one that opens and can't be read to its end is not empty, and gives only `UNREADABLE`.
+-- Files that are not run give only their line, and any others the report of the run.
+abbrev pub UnreadableReport : Type 0
+UnreadableReport =
+    (commands image : List ℕ)
+    → printed false commands image ≡ 85 ∷ 78 ∷ 82 ∷ 69 ∷ 65 ∷ 68 ∷ 65 ∷ 66 ∷ 76 ∷ 69 ∷ 10 ∷ []
+
+abbrev pub NoticeAlone : Type 0
+NoticeAlone =
+    (readable : Bool) (commands image : List ℕ)
+    → filesOf readable (length commands) (length image) ≢ Fit
+    → printed readable commands image ≡ noticeOf (filesOf readable (length commands) (length image))
+
+abbrev pub RunPrinted : Type 0
+RunPrinted =
+    (readable : Bool) (commands image : List ℕ)
+    → filesOf readable (length commands) (length image) ≡ Fit
+    → printed readable commands image ≡ reportFrom commands false (fresh image)
 
 -- ---- the digits
 
@@ -149,3 +174,41 @@ abbrev pub BytesAddUp : Type 0
 BytesAddUp =
     (k : ℕ) (commands image : List ℕ)
     → took commands (fresh image) (made k commands image) + (length commands - left k commands image .cursor) ≡ length commands
+
+-- ---- the report in pieces
+
+-- The bytes of a piece, followed by the report from the state that it leaves, are the report from the state that it was given.
+abbrev pub PieceByPiece : Type 0
+PieceByPiece =
+    (input : List ℕ) (room : ℕ) (over : Bool) (s : State)
+    → linesOf input s (pieceOf input room over s) ++ reportFrom input (overBy input room over s) (leftBy input room over s)
+    ≡ reportFrom input over s
+
+-- A buffer shorter than the longest line takes no piece, and a report that is over has none: nothing changes.
+pub record NoPiece (input : List ℕ) (room : ℕ) (over : Bool) (s : State) : Type 0 where
+  pub no-line : linesOf input s (pieceOf input room over s) ≡ []
+  pub state-stays : leftBy input room over s ≡ s
+  pub over-stays : overBy input room over s ≡ over
+
+abbrev pub ShortBuffer : Type 0
+ShortBuffer = (input : List ℕ) (room : ℕ) (over : Bool) (s : State) → room < longestLine → NoPiece input room over s
+
+abbrev pub NothingLeft : Type 0
+NothingLeft = (input : List ℕ) (room : ℕ) (s : State) → NoPiece input room true s
+
+-- Pieces one behind the other, for buffers of any lengths, are the report once it is over, and the state that they leave is that of the
+-- whole run.
+abbrev pub PiecesAreTheReport : Type 0
+PiecesAreTheReport =
+    (commands image rooms : List ℕ)
+    → tooLong (length commands) (length image) ≡ false
+    → pieces commands rooms false (fresh image) .over ≡ true
+    → (pieces commands rooms false (fresh image) .bytes ≡ reportOf commands image)
+    × (pieces commands rooms false (fresh image) .state ≡ lastState commands false (fresh image))
+
+-- It comes to that: a piece for each byte of the commands, and one more, are enough where the longest line has room.
+abbrev pub EnoughPieces : Type 0
+EnoughPieces =
+    (commands image : List ℕ) (room : ℕ)
+    → longestLine ≤ room
+    → pieces commands (replicate (suc (length commands)) room) false (fresh image) .over ≡ true

@@ -40,6 +40,10 @@ refusedWord = 82 ∷ 69 ∷ 70 ∷ 85 ∷ 83 ∷ 69 ∷ 68 ∷ 32 ∷ []
 unfoldable pub tooLongLine : List ℕ
 tooLongLine = 84 ∷ 79 ∷ 79 ∷ 32 ∷ 76 ∷ 79 ∷ 78 ∷ 71 ∷ 10 ∷ []
 
+-- "UNREADABLE", with the newline
+unfoldable pub unreadableLine : List ℕ
+unreadableLine = 85 ∷ 78 ∷ 82 ∷ 69 ∷ 65 ∷ 68 ∷ 65 ∷ 66 ∷ 76 ∷ 69 ∷ 10 ∷ []
+
 -- ---- the lines, each with its newline
 
 -- `DROP 41`: the byte that a call dropped

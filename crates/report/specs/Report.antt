@@ -5,9 +5,11 @@ use mathlib.Core.List.{List, [], _∷_, _++_}
 use lib.Dec.{ltb}
 use lib.ListN.{length, replicate}
 use Rattle.bench.specs.Counts.{freshTally}
-use Rattle.bench.specs.Machine.{State, call, Step, step}
+use Rattle.bench.specs.Machine.{State, call, Step, step, after}
 use Rattle.frame.specs.Bytes.{pick}
-use Rattle.report.specs.Lines.{tooLongLine, lineOf, ends}
+use Rattle.report.specs.Lines.{tooLongLine, unreadableLine, lineOf, ends}
+use Rattle.report.specs.declared.limits.Files.{Files}
+use Rattle.report.specs.declared.limits.Files.the-variants.{Unreadable, TooLong, Fit}
 
 -- the steps of the calls up to the first that ends the report, or of as many calls as `most` says
 unfoldable pub stepsBy : ℕ → List ℕ → State → List Step
@@ -23,9 +25,16 @@ unfoldable pub linesOf : List ℕ → State → List Step → List ℕ
 linesOf input s [] = []
 linesOf input s (x ∷ rest) = lineOf input s x ++ linesOf input (x .next) rest
 
--- the report from a state on; of a report that is over no bytes are left
+-- the report from a state on; of a report that is over no step is left to tell
+unfoldable pub stepsFrom : List ℕ → Bool → State → List Step
+stepsFrom input over s = pick over [] (steps input s)
+
 unfoldable pub reportFrom : List ℕ → Bool → State → List ℕ
-reportFrom input over s = pick over [] (linesOf input s (steps input s))
+reportFrom input over s = linesOf input s (stepsFrom input over s)
+
+-- the state that the last of them leaves
+unfoldable pub lastState : List ℕ → Bool → State → State
+lastState input over s = after (replicate (length (stepsFrom input over s)) (call input)) s
 
 -- "The program reads commands.bin and tag.img, at most 32,768 and 2,048 bytes; a longer file gives only `TOO LONG`"
 unfoldable pub tooLong : ℕ → ℕ → Bool
@@ -37,3 +46,19 @@ fresh image = record { image = image; output = replicate 136 0; cursor = 0; tall
 
 unfoldable pub reportOf : List ℕ → List ℕ → List ℕ
 reportOf commands image = pick (tooLong (length commands) (length image)) tooLongLine (reportFrom commands false (fresh image))
+
+-- ---- what the program prints
+
+-- how its two files stand before a run. Document 01 counts a file that can't be opened as empty, and says nothing of one that opens and
+-- can't be read to its end: that one is told first, whatever its length and that of the other.
+unfoldable pub filesOf : Bool → ℕ → ℕ → Files
+filesOf readable commands image = pick readable (pick (tooLong commands image) TooLong Fit) Unreadable
+
+-- the only line where they are not run
+unfoldable pub noticeOf : Files → List ℕ
+noticeOf Unreadable = unreadableLine
+noticeOf TooLong = tooLongLine
+noticeOf Fit = []
+
+unfoldable pub printed : Bool → List ℕ → List ℕ → List ℕ
+printed readable commands image = pick readable (reportOf commands image) unreadableLine

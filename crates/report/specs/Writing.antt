@@ -1,20 +1,22 @@
 -- What the functions that write the report promise.
 use Prim.Native.Nat.{ℕ, _+_, _-_, _≤_, _<_}
-use mathlib.Core.Bool.{Bool, true, false}
-use mathlib.Core.List.{List, _++_}
+use mathlib.Core.Bool.{Bool, false}
+use mathlib.Core.List.{List}
 use mathlib.Core.Path.{_≡_}
-use lib.ListN.{length, take, drop, replicate}
+use lib.Dec.{ltb}
+use lib.ListN.{length, take}
 use Rattle.bench.specs.Counts.{freshTally}
 use Rattle.bench.specs.Machine.{State, stateOf, call, step}
-use Rattle.bench.specs.Machine.{after as afterCalls}
 use Rattle.bench.specs.declared.calling.Called.{Called}
 use Rattle.bench.specs.declared.outcome.Outcome.the-variants.{Answered}
 use Rattle.execution.specs.Putting.{Put}
-use Rattle.frame.specs.Bytes.{byte}
+use Rattle.frame.specs.Bytes.{pick, byte}
 use Rattle.frame.specs.Frames.{written}
-use Rattle.report.specs.Lines.{tooLongLine, longestLine, lineFor, lineOf, ends}
-use Rattle.report.specs.Report.{reportFrom}
+use Rattle.report.specs.Lines.{longestLine, lineFor, lineOf, ends}
+use Rattle.report.specs.Pieces.{pieceOf, leftBy, overBy}
+use Rattle.report.specs.Report.{linesOf}
 use Rattle.report.specs.declared.writing.Progress.{Progress}
+use Rattle.report.specs.declared.writing.Room.{Room}
 use Rattle.report.specs.declared.writing.Room.the-variants.{Enough, TooShort}
 use Rattle.report.specs.declared.writing.Written.{Written}
 
@@ -55,35 +57,23 @@ pub record OneLine (input : List ℕ) (s : State) (at : ℕ) (before after : Lis
   pub next-is : next ≡ step (call input) s .next
   pub over-is : r .progress .over ≡ ends (step (call input) s .outcome)
 
--- What `write` comes to where the buffer has room for the longest line. The bytes that it wrote, followed by the report from the
--- state that it leaves, are the report from the state that it was given; so the pieces of any number of calls are the whole.
-pub record Piece (input before after : List ℕ) (s : State) (over : Bool) (next : State) (r : Written) : Type 0 where
-  pub enough : r .room ≡ Enough
+-- a buffer shorter than the longest line is refused
+unfoldable pub roomIn : ℕ → Room
+roomIn room = pick (ltb room longestLine) TooShort Enough
+
+-- What `write` comes to, in any buffer: the lines of the piece stand at its start, and what lies behind them stays. Image, output, cursor
+-- and tally are those after as many calls as the piece has steps.
+pub record Wrote (input before after : List ℕ) (s : State) (over : Bool) (next : State) (r : Written) : Type 0 where
+  pub room-is : r .room ≡ roomIn (length before)
+  pub used-is : r .used ≡ length (linesOf input s (pieceOf input (length before) over s))
   pub within : r .used ≤ length before
-  pub bytes : take (r .used) after ++ reportFrom input (r .progress .over) next ≡ reportFrom input over s
-  -- the buffer behind those bytes stays
-  pub behind-stays : drop (r .used) after ≡ drop (r .used) before
-  -- something is written, unless the report was over; and as much as fits, unless it is over now
-  pub some : over ≡ false → 0 < r .used
-  pub filled : r .progress .over ≡ false → length before < r .used + longestLine
-  -- a report that was over stays so, and nothing changes
-  pub stays-over : over ≡ true → (next ≡ s) × (r .progress .over ≡ true) × (r .used ≡ 0)
-  -- image, output, cursor and tally are those after some number of calls
-  pub calls : (k : ℕ) × (next ≡ afterCalls (replicate k (call input)) s)
-
--- a buffer shorter than that is refused, and nothing changes
-pub record Refused (before after : List ℕ) (s : State) (p : Progress) (next : State) (r : Written) : Type 0 where
-  pub refused : r ≡ record { room = TooShort; used = 0; progress = p }
-  pub buffer-stays : after ≡ before
-  pub state-stays : next ≡ s
-
-pub record Wrote (input before after : List ℕ) (s : State) (p : Progress) (next : State) (r : Written) : Type 0 where
-  pub short : length before < longestLine → Refused before after s p next r
-  pub long : longestLine ≤ length before → Piece input before after s (p .over) next r
+  pub buffer-is : after ≡ written (linesOf input s (pieceOf input (length before) over s)) before
+  pub next-is : next ≡ leftBy input (length before) over s
+  pub over-is : r .progress .over ≡ overBy input (length before) over s
 
 -- ---- a report that is one line
 
 -- the line stands at the start, and the buffer behind it stays; where it has no room, nothing is written
-pub record Told (before after : List ℕ) (used : ℕ) : Type 0 where
-  pub short : length before < 9 → (used ≡ 0) × (after ≡ before)
-  pub long : 9 ≤ length before → (used ≡ 9) × (after ≡ written tooLongLine before)
+pub record Told (line before after : List ℕ) (used : ℕ) : Type 0 where
+  pub short : length before < length line → (used ≡ 0) × (after ≡ before)
+  pub long : length line ≤ length before → (used ≡ length line) × (after ≡ written line before)

@@ -1,8 +1,17 @@
-// The limits of document 01 on the program's files, and the report that a longer file gives.
+// What is tested of the program's two files before a run, and the report on files that are not run.
 use crate::lines::put_text;
 ghost use mathlib.Core.Path.{_≡_};
-ghost use Rattle.report.specs.Report.{tooLong};
+ghost use Rattle.report.specs.Report.{tooLong, filesOf, noticeOf};
 ghost use Rattle.report.specs.Writing.{Told};
+
+// How the two files stand before a run.
+pub enum Files {
+    // One of them was opened and could not be read to its end.
+    Unreadable,
+    // One of them has more bytes than document 01 allows.
+    TooLong,
+    Fit,
+}
 
 // The lengths of the commands and of the image.
 pub fn too_long(commands: usize, image: usize) -> bool
@@ -14,13 +23,36 @@ pub fn too_long(commands: usize, image: usize) -> bool
     2048 < image
 }
 
-// The whole report on files that are too long, at the start of the buffer. The result is how many bytes were written: none where the
-// buffer has no room for them, and then nothing changes.
-pub fn write_too_long(buffer: &mut [u8]) -> usize
-    ensures { λ r. ⌜ Told (now (buffer .entry)) (now (buffer .exit)) r ⌝ }
+pub fn judge(readable: bool, commands: usize, image: usize) -> Files
+    ensures { λ r. ⌜ r ≡ filesOf readable commands image ⌝ }
 {
-    if buffer.len() < 9 {
+    if !readable {
+        return Files::Unreadable;
+    }
+    if too_long(commands, image) {
+        return Files::TooLong;
+    }
+    Files::Fit
+}
+
+// Where the buffer has no room for the line, nothing is put.
+fn put_notice(line: &[u8], buffer: &mut [u8]) -> usize
+    ensures { λ r. ⌜ Told (now (line .entry)) (now (buffer .entry)) (now (buffer .exit)) r ⌝ }
+{
+    if buffer.len() < line.len() {
         return 0;
     }
-    put_text(buffer, 0, b"TOO LONG\n")
+    put_text(buffer, 0, line)
+}
+
+// The whole report on files that are not run, at the start of the buffer. The result is how many bytes were written: none where the
+// buffer has no room for them, and then nothing changes.
+pub fn write_notice(files: Files, buffer: &mut [u8]) -> usize
+    ensures { λ r. ⌜ Told (noticeOf files) (now (buffer .entry)) (now (buffer .exit)) r ⌝ }
+{
+    match files {
+        Files::Unreadable => put_notice(b"UNREADABLE\n", buffer),
+        Files::TooLong => put_notice(b"TOO LONG\n", buffer),
+        Files::Fit => 0,
+    }
 }

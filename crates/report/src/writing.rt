@@ -143,7 +143,7 @@ pub fn write(
     progress: Progress,
 ) -> Written
     ensures { λ r. ⌜
-        Wrote (now (input .entry)) (now (buffer .entry)) (now (buffer .exit)) (standing (now (image .entry)) (now (output .entry)) progress) progress
+        Wrote (now (input .entry)) (now (buffer .entry)) (now (buffer .exit)) (standing (now (image .entry)) (now (output .entry)) progress) (progress .over)
         (standing (now (image .exit)) (now (output .exit)) (r .progress)) r
         ⌝ }
 {

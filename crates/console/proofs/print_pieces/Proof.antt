@@ -1,11 +1,11 @@
 -- `print_pieces` meets its contract: each piece is written from the state that the one before left, and the report ends.
 use borrow.Author.Needs.{needs}
-use borrow.Author.Tests.{not-true}
+use borrow.Author.Tests.{not-true, not-false}
 use lib.ListN.{length}
 use lib.Seq.{length-take-le}
 use mathlib.Core.Path.{sym}
-use Rattle.console.proofs.Printing.{Going, going, ran, used-there, goes-on, nearer}
-use Rattle.report.specs.Report.{reportFrom}
+use Rattle.console.proofs.Printing.{Going, going, stopped, finished, used-there, goes-on, nearer}
+use Rattle.report.specs.Report.{stepsFrom}
 use Rattle.report.specs.Writing.{standing}
 use Rattle.console.proofs.print_pieces.Statement.{statement}
 use Rattle.console.proofs.print_pieces.Tie as tie
@@ -14,7 +14,7 @@ abbrev Inv-loop : tie.InvT-loop
 Inv-loop commands image₀ output₀ buffer₀ progress₀ image output buffer progress = Going commands image₀ output₀ buffer₀ image output buffer progress
 
 abbrev μ-loop : tie.MeasureT-loop
-μ-loop commands image₀ output₀ buffer₀ progress₀ image output buffer progress = length (reportFrom commands (progress .over) (standing image output progress))
+μ-loop commands image₀ output₀ buffer₀ progress₀ image output buffer progress = length (stepsFrom commands (progress .over) (standing image output progress))
 
 start-requires : tie.Need-start-requires Inv-loop μ-loop
 start-requires c κs = search needs
@@ -53,7 +53,7 @@ returns : tie.Need-returns Inv-loop μ-loop
 returns c =
     let made = c .before .before .before .before .before .before .before .before .before .write in
     let l = c .before .before .before .before .before .before .before .before .before .before .before .before .before .before .before in
-    ran _ _ _ _ _ _ _ _ (goes-on _ _ _ _ _ _ _ _ _ _ _ _ (l .loop .inv) (l .before .before .before .before .before .before .pre) (made .ensures) (made .kept .1 .0) (made .kept .1 .1 .0) (made .kept .1 .1 .1 .0))
+    stopped _ _ _ _ _ _ _ _ (goes-on _ _ _ _ _ _ _ _ _ _ _ _ (l .loop .inv) (l .before .before .before .before .before .before .pre) (made .ensures) (made .kept .1 .0) (made .kept .1 .1 .0) (made .kept .1 .1 .1 .0))
 
 loop-less : tie.Need-loop-less Inv-loop μ-loop
 loop-less c =
@@ -77,7 +77,7 @@ same-length-6 : tie.Need-same-length-6 Inv-loop μ-loop
 same-length-6 c = search needs
 
 returns-2 : tie.Need-returns-2 Inv-loop μ-loop
-returns-2 c = ran _ _ _ _ _ _ _ _ (c .before .before .loop .inv)
+returns-2 c = finished _ _ _ _ _ _ _ _ (c .before .before .loop .inv) (not-false _ (c .if1 .left))
 
 pub print-pieces-spec : {M : Type 1} → statement M
 print-pieces-spec =

@@ -1,5 +1,5 @@
 -- `too_long` meets its contract: the commands first, then the image.
-use Rattle.report.proofs.TooLong.{by-commands, by-image}
+use Rattle.report.proofs.NotRun.{by-commands, by-image}
 use Rattle.report.proofs.limits.too_long.Statement.{statement}
 use Rattle.report.proofs.limits.too_long.Tie as tie
 

@@ -1,11 +1,11 @@
--- `write` meets its contract. The loop's invariant: what stands in the buffer, followed by the report from the state reached, is the
--- whole.
+-- `write` meets its contract. The loop's invariant: what was put, and what the rest of the buffer takes from the state reached, is the
+-- piece.
 use Prim.Native.Nat.{suc, _-_}
 use lib.ListN.{length}
 use mathlib.Core.Path.{_≡_, refl, _∙_}
 use native.Mathlib.Omega.{arith}
 use Rattle.frame.specs.Bytes.{pick}
-use Rattle.report.proofs.Pieces.{Going, going, goes, falls, too-short, pieced, ended}
+use Rattle.report.proofs.Pieces.{Going, going, goes, falls, too-short, filled, ended}
 use Rattle.report.specs.Writing.{standing}
 use borrow.Author.Needs.{needs}
 use Rattle.report.proofs.writing.write.Statement.{statement}
@@ -72,7 +72,7 @@ same-length-6 c = search needs
 returns-3 : tie.Need-returns-3 Inv-loop μ-loop
 returns-3 c =
     let l = c .before .loop in
-    pieced _ _ _ _ _ _ _ (l .next) (c .before .before .if1 .left) (l .inv .1 .1) (λ h. omega (arith, l .inv .1 .1 .same))
+    filled _ _ _ _ _ _ _ (l .next) (c .before .before .if1 .left) (l .inv .1 .1) (c .loop-test .left)
 
 pub write-spec : {M : Type 1} → statement M
 write-spec =
