@@ -7,36 +7,38 @@ use mathlib.Core.Logic.{_≢_}
 use mathlib.Core.Path.{_≡_, refl, ap}
 use native.Mathlib.Omega.{arith}
 use Rattle.bench.proofs.Steps.{Ready, step-cases}
-use Rattle.bench.proofs.Tallies.{not-full-dropped, raised-below}
+use Rattle.reader.proofs.Tallies.{not-full-dropped, raised-below}
 use Rattle.bench.specs.Claims.{AnswerNumbers, NothingChanges, DropTakesOneByte, OneFrame, AnswerIsOneFrame, CommandsComeTo}
-use Rattle.bench.specs.Counts.{full, limit}
-use Rattle.bench.specs.Machine.{State, Call, Step, numberOf, unchanged, dropped, answered, actIn, afterFinding, inputOf, restOf, step}
+use Rattle.reader.specs.Tallies.{full, limit}
+use Rattle.bench.specs.Machine.{State, Call, Step, numberOf, unchanged, dropped, answered, actIn, stateOf, jobFor, decide, carriedOut, inputOf, restOf, step}
 use Rattle.frame.proofs.Accepting.{Accepted}
 use Rattle.frame.proofs.FrameBytes.{length-written, take-written, drop-written}
 use Rattle.frame.proofs.Picks.{pick-or, pick-not-both}
 use Rattle.frame.specs.Bytes.{pick, firstOf, byte, number, part}
-use Rattle.frame.specs.Finding.{find, codeIn, parametersIn, plIn, checkRight, endRight}
+use Rattle.frame.specs.Finding.{find}
+use Rattle.frame.specs.Formats.{commands, codeIn, parametersIn, plIn, sumRight, lastRight}
 use Rattle.frame.specs.Frames.{checkOf, frameLength, longestCommand, longestAnswer}
+use Rattle.bench.specs.declared.deciding.Job.{Job}
 use Rattle.frame.specs.declared.finding.Found.{Found}
 use Rattle.tag.proofs.AnswerBytes.{answer-most}
 use Rattle.tag.specs.Answers.{answer, changed}
 use Rattle.tag.specs.Claims.{comesTo, outcome}
 
--- the number of a step, and the step after finding, go into a choice
-number-pick : (test : Bool) (x y : Step) → numberOf (pick test x y .outcome) ≡ pick test (numberOf (x .outcome)) (numberOf (y .outcome))
+-- a job, the step that it comes to and the number of that step go into a choice
+number-pick : (s : State) (rest : List ℕ) (test : Bool) (x y : Job)
+    → numberOf (carriedOut s rest (pick test x y) .outcome) ≡ pick test (numberOf (carriedOut s rest x .outcome)) (numberOf (carriedOut s rest y .outcome))
 unfolding pick
-number-pick true x y = refl
-number-pick false x y = refl
+number-pick s rest true x y = refl
+number-pick s rest false x y = refl
 
-found-pick : (s : State) (rest : List ℕ) (test : Bool) (x y : Found)
-    → afterFinding s rest (pick test x y) ≡ pick test (afterFinding s rest x) (afterFinding s rest y)
+job-pick : (test : Bool) (x y : Found) → jobFor (pick test x y) ≡ pick test (jobFor x) (jobFor y)
 unfolding pick
-found-pick s rest true x y = refl
-found-pick s rest false x y = refl
+job-pick true x y = refl
+job-pick false x y = refl
 
 pub answer-numbers : AnswerNumbers
-unfolding firstOf step numberOf unchanged dropped answered afterFinding full limit longestAnswer find checkRight endRight checkOf plIn frameLength longestCommand
-answer-numbers c s = simp (number-pick, found-pick, pick-or, pick-not-both)
+unfolding firstOf step decide jobFor carriedOut numberOf unchanged dropped answered full limit longestAnswer find sumRight lastRight checkOf plIn frameLength longestCommand restOf
+answer-numbers c s = simp (number-pick, job-pick, pick-or, pick-not-both)
 
 pub nothing-changes : NothingChanges
 unfolding unchanged dropped answered numberOf
@@ -54,17 +56,16 @@ drop-takes-one-byte c s =
     numberOf (x .outcome) ≡ 3
     → (x .length ≡ 0)
     × (x .next
-    ≡ record {
-      image = s .image;
-      output = s .output;
-      cursor = s .cursor + 1;
-      tally = record { good = s .tally .good; error = s .tally .error; dropped = s .tally .dropped + 1 };
+    ≡ stateOf (s .image) (s .output)
+    record {
+      cursor = s .reader .cursor + 1;
+      tally = record { good = s .reader .tally .good; error = s .reader .tally .error; dropped = s .reader .tally .dropped + 1 };
     }))
     (λ o m n three. absurd (n three))
-    (λ r some three. (refl, rw (raised-below (s .tally .dropped) (not-full-dropped (s .tally) (r .not-full)))))
+    (λ r some three. (refl, rw (raised-below (s .reader .tally .dropped) (not-full-dropped (s .reader .tally) (r .not-full)))))
     (λ r pl a three. absurd (omega (arith, three)))
 
-pub framed : (c : Call) (s : State) → Ready c s → (pl : ℕ) → Accepted (restOf c s) pl → OneFrame c s (answered s (restOf c s) pl (actIn s (restOf c s)))
+pub framed : (c : Call) (s : State) → Ready c s → (pl : ℕ) → Accepted commands (restOf c s) pl → OneFrame c s (answered s (restOf c s) pl (actIn s (restOf c s)))
 unfolding answered actIn frameLength plIn restOf
 framed c s r pl a =
     let frame : List ℕ = answer (s .image) (actIn s (restOf c s)) in
@@ -75,7 +76,7 @@ framed c s r pl a =
       behind-stays = drop-written frame (s .output);
       room-stays = length-written frame (s .output) (omega (arith, r .room));
       over-the-command = omega (arith, a .read);
-      not-past-the-end = omega (arith, a .fits, length-drop (s .cursor) (inputOf c), r .not-past);
+      not-past-the-end = omega (arith, a .fits, length-drop (s .reader .cursor) (inputOf c), r .not-past);
     }
 
 pub answer-is-one-frame : AnswerIsOneFrame

@@ -1,27 +1,28 @@
--- The bound on calls: a call that takes bytes moves the cursor on, so at most as many calls as there are bytes take some.
+-- The bound on calls: a call that takes something lowers the work that is left, so at most that many calls do.
 use Prim.Native.Nat.{ℕ, zero, suc, _+_, _≤_, _<_}
 use borrow.Author.Tests.{ne-eqb}
 use lib.Dec.{eqb}
 use lib.ListN.{length, replicate, length-drop}
-use mathlib.Core.Bool.{true, false}
+use mathlib.Core.Bool.{true, false, true≢false}
 use mathlib.Core.List.{List}
 use mathlib.Core.Logic.{_⊎_, inl, inr, ⊎-elim}
-use mathlib.Core.Path.{_≡_, refl}
+use mathlib.Core.Path.{_≡_, refl, sym, _∙_}
 use native.Mathlib.Omega.{arith}
 use Rattle.bench.proofs.Answering.{framed}
-use Rattle.bench.proofs.Steps.{Ready, ready-cases}
-use Rattle.bench.specs.Claims.{answerOf, count, takes, Bound}
-use Rattle.bench.specs.Counts.{full, limit, raised, freshTally}
-use Rattle.bench.specs.Machine.{State, stateOf, call, Step, numberOf, unchanged, dropped, answered, counted, actIn, inputOf, restOf, step, run, after}
-use Rattle.bench.specs.declared.tally.Tally.{Tally}
+use Rattle.bench.proofs.Steps.{Ready, step-cases, ready-cases}
+use Rattle.bench.specs.Claims.{answerOf, count, takes, WorkFalls, Bound}
+use Rattle.reader.specs.Readers.{freshReader}
+use Rattle.reader.specs.Tallies.{full, limit, raised}
+use Rattle.bench.specs.Machine.{State, stateOf, call, Step, numberOf, unchanged, dropped, answered, counted, actIn, inputOf, restOf, step, work, run, after}
+use Rattle.reader.specs.declared.tally.Tally.{Tally}
 use Rattle.frame.proofs.Accepting.{Accepted}
 use Rattle.frame.proofs.Picks.{by-test}
 use Rattle.frame.specs.Bytes.{pick}
-use Rattle.frame.specs.Finding.{codeIn, parametersIn}
+use Rattle.frame.specs.Formats.{commands, codeIn, parametersIn}
 use Rattle.frame.specs.Frames.{frameLength}
 use Rattle.tag.proofs.StaysGood.{stays-good}
 use Rattle.tag.specs.Answers as Answers
-use Rattle.tag.specs.Image.{good}
+use Rattle.image.specs.Image.{good}
 use Rattle.tag.specs.declared.commands.Act.{Act}
 
 -- no count is above n
@@ -45,13 +46,22 @@ counted-most t act =
     (λ h. omega (arith, raised-most (t .error)))
     (λ h. omega (arith, raised-most (t .good)))
 
+-- every answer 0 or 3 lowers the work that is left
+pub work-falls : WorkFalls
+unfolding work takes unchanged dropped answered numberOf frameLength restOf inputOf
+work-falls input s =
+    step-cases (call input) s (λ (x : Step). takes x ≡ true → work input (x .next) < work input s)
+    (λ o m n t. absurd (true≢false (sym t ∙ simp (ne-eqb (numberOf o) 0 m, ne-eqb (numberOf o) 3 n))))
+    (λ r some t. omega (arith, length-drop (s .reader .cursor) input))
+    (λ r pl a t. omega (arith, a .fits, length-drop (s .reader .cursor) input))
+
 module _ (input : List ℕ) (small : length input < limit) where
   -- what holds of the state at every call
   record Fit (s : State) : Type 0 where
-    not-past : s .cursor ≤ length input
+    not-past : s .reader .cursor ≤ length input
     image-good : good (s .image) ≡ true
     room : 136 ≤ length (s .output)
-    few : s .tally .good + s .tally .error + s .tally .dropped ≤ s .cursor
+    few : s .reader .tally .good + s .reader .tally .error + s .reader .tally .dropped ≤ s .reader .cursor
 
   ready : (s : State) → Fit s → Ready (call input) s
   unfolding inputOf
@@ -60,13 +70,12 @@ module _ (input : List ℕ) (small : length input < limit) where
         not-past = f .not-past;
         image-good = f .image-good;
         room = f .room;
-        not-full = few-not-full (s .tally) (s .cursor) (f .few) (omega (arith, f .not-past));
+        not-full = few-not-full (s .reader .tally) (s .reader .cursor) (f .few) (omega (arith, f .not-past));
       }
 
   -- a step ends the run, or takes bytes and leaves a state in which all that holds again
   record Taken (s : State) (x : Step) : Type 0 where
     taken : takes x ≡ true
-    on : s .cursor < x .next .cursor
     fit : Fit (x .next)
 
   Ends : Step → Type 0
@@ -77,17 +86,16 @@ module _ (input : List ℕ) (small : length input < limit) where
   drop-taken s f some =
       record {
         taken = refl;
-        on = omega arith;
         fit =
             record {
-              not-past = omega (arith, length-drop (s .cursor) input);
+              not-past = omega (arith, length-drop (s .reader .cursor) input);
               image-good = f .image-good;
               room = f .room;
-              few = omega (arith, raised-most (s .tally .dropped), f .few);
+              few = omega (arith, raised-most (s .reader .tally .dropped), f .few);
             };
       }
 
-  answer-taken : (s : State) (f : Fit s) (pl : ℕ) → Accepted (restOf (call input) s) pl
+  answer-taken : (s : State) (f : Fit s) (pl : ℕ) → Accepted commands (restOf (call input) s) pl
       → Taken s (answered s (restOf (call input) s) pl (actIn s (restOf (call input) s)))
   unfolding answered takes numberOf actIn frameLength inputOf
   answer-taken s f pl a =
@@ -95,13 +103,12 @@ module _ (input : List ℕ) (small : length input < limit) where
       let frame = framed (call input) s (ready s f) pl a in
       record {
         taken = refl;
-        on = omega arith;
         fit =
             record {
               not-past = frame .not-past-the-end;
               image-good = stays-good (s .image) (parametersIn rest) (codeIn rest) (f .image-good);
               room = omega (arith, frame .room-stays, f .room);
-              few = omega (arith, counted-most (s .tally) (actIn s rest), f .few);
+              few = omega (arith, counted-most (s .reader .tally) (actIn s rest), f .few);
             };
       }
 
@@ -112,7 +119,7 @@ module _ (input : List ℕ) (small : length input < limit) where
       (λ some. inr (drop-taken s f some))
       (λ pl a. inr (answer-taken s f pl a))
 
-  -- at most m calls take bytes, where at most m bytes are left
+  -- at most m calls take something, where the work left is at most m
   Within : ℕ → State → Type 0
   Within m s =
       (k : ℕ)
@@ -124,17 +131,17 @@ module _ (input : List ℕ) (small : length input < limit) where
   unfolding Within run after count pick
   one-more m s t w = (suc (w .0), omega (arith, w .1), rw t (omega (arith, w .2)), w .3)
 
-  within : (m : ℕ) (s : State) → Fit s → length input ≤ s .cursor + m → Within m s
+  within : (m : ℕ) (s : State) → Fit s → work input s ≤ m → Within m s
   unfolding Within Ends run after count
   within zero s f h =
-      ⊎-elim (λ ends. (0, omega arith, refl, ends)) (λ t. absurd (omega (arith, t .on, t .fit .not-past))) (next-call s f)
+      ⊎-elim (λ ends. (0, omega arith, refl, ends)) (λ t. absurd (omega (arith, work-falls input s (t .taken)))) (next-call s f)
   within (suc m) s f h =
       ⊎-elim (λ ends. (0, omega arith, refl, ends))
-      (λ t. one-more m s (t .taken) (within m (step (call input) s .next) (t .fit) (omega (arith, t .on, h))))
+      (λ t. one-more m s (t .taken) (within m (step (call input) s .next) (t .fit) (omega (arith, work-falls input s (t .taken), h))))
       (next-call s f)
 
 pub bound : Bound
-unfolding Within limit
+unfolding Within limit work
 bound input image output small h room =
-    within input (omega arith) (length input) (stateOf image output 0 freshTally)
+    within input (omega arith) (length input) (stateOf image output freshReader)
     record { not-past = omega arith; image-good = h; room = room; few = omega arith } (omega arith)

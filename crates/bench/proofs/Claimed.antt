@@ -6,7 +6,7 @@ use Rattle.bench.proofs.Effects as Effects
 use Rattle.bench.proofs.Histories as Histories
 use Rattle.bench.proofs.Secret as Secret
 use Rattle.bench.proofs.Permalocked as Permalocked
-use Rattle.bench.specs.Claims.{AnswerNumbers, NothingChanges, DropTakesOneByte, AnswerIsOneFrame, History, Bound, Starred, CommandsComeTo, GoodStaysGood, WriteEffect, LockEffect, KillEffect, NoOtherEffect, GapsStay, PermalockRule, Demand3, Demand3CanBeMet}
+use Rattle.bench.specs.Claims.{AnswerNumbers, NothingChanges, DropTakesOneByte, AnswerIsOneFrame, History, WorkFalls, Bound, Starred, CommandsComeTo, GoodStaysGood, WriteEffect, LockEffect, KillEffect, NoOtherEffect, GapsStay, PermalockRule, Demand3, Demand3CanBeMet}
 
 pub answer-numbers : AnswerNumbers
 answer-numbers = Answering.answer-numbers
@@ -22,6 +22,9 @@ answer-is-one-frame = Answering.answer-is-one-frame
 
 pub history : History
 history = Histories.history
+
+pub work-falls : WorkFalls
+work-falls = Bounding.work-falls
 
 pub bound : Bound
 bound = Bounding.bound

@@ -7,22 +7,23 @@ use mathlib.Core.Logic.{inl}
 use mathlib.Core.Path.{refl}
 use native.Mathlib.Omega.{arith}
 use Rattle.bench.specs.Claims.{Starred, PremisesMet, Demand3CanBeMet}
-use Rattle.bench.specs.Counts.{limit, full, raised}
-use Rattle.bench.specs.Machine.{Call, call, numberOf, unchanged, dropped, counted, answered, actIn, afterFinding, inputOf, restOf, step, run}
-use Rattle.bench.specs.Sample.{bytes, sample}
+use Rattle.reader.specs.Tallies.{limit, full, raised}
+use Rattle.bench.specs.Machine.{Call, call, numberOf, unchanged, dropped, counted, answered, actIn, jobFor, decide, carriedOut, inputOf, restOf, step, run}
+use Rattle.bench.specs.Sample.{sample}
 use Rattle.bench.specs.Secrecy.{passwordsAt, acceptedBy, accepted, carries, carriesNone, noneCarries}
 use Rattle.crc.specs.Crc.{leaving, shifted, added, bitStep, bitSteps, entered, byteStep, crc, tagCrc}
-use Rattle.frame.specs.Bytes.{pick, all, byte, number, double, twoBytes, part}
-use Rattle.frame.specs.Finding.{codeIn, plIn, parametersIn, checkRight, endRight, find}
+use Rattle.frame.specs.Bytes.{pick, all, byte, number, double, bytesOf, bytesOf as bytes, part}
+use Rattle.frame.specs.Finding.{find}
+use Rattle.frame.specs.Formats.{codeIn, plIn, parametersIn, sumRight, lastRight}
 use Rattle.frame.specs.Frames.{sum, checkOf, checked, frameOf, frameLength, longestCommand, longestAnswer, written}
 use Rattle.tag.specs.Answers.{pcAndEpc, tail, answer, changed, isError}
-use Rattle.tag.specs.Commands.{passwordIn, bankIn, pointerIn, countIn, dataIn, ldIn, aimRight, parseInventory, parseRead, parseWrite, parseLock, parseKill, parse, gone, outside, inventoryVerdict, readVerdict, lengthBroken, writeVerdict, lockVerdict, killActs, killVerdict, verdict, actOf}
-use Rattle.tag.specs.Image.{bankAt, view, rssi, bankOf, wordAt, endOf, epcLength, killPassword, accessPassword, goodHeader, goodBanks, goodTag, good}
+use Rattle.tag.specs.Commands.{passwordIn, bankIn, pointerIn, countIn, dataIn, ldIn, aimRight, parseInventory, parseRead, parseWrite, parseLock, parseKill, parse, gone, ifPresent, admitted, outside, inventoryVerdict, readAct, readVerdict, lengthBroken, writeAct, writeVerdict, lockAct, lockVerdict, killAct, killVerdict, verdict, actOf}
+use Rattle.image.specs.Image.{bankAt, view, rssi, bankOf, wordAt, endOf, epcLength, killPassword, accessPassword, goodHeader, goodBanks, goodTag, good}
 use Rattle.tag.specs.Locks.{pairs, bitsOf, permalocked, standingOf, standing, isSecured, isWrong, killStandingOf, killStanding, allows, touches, mayTouchPasswords, mayRead, mayWrite, newBit, newPair, newPairs, breaks, breaksPermalock}
 
 -- all that the machine is made of, opened at once
 unfoldable pub everything : Unit {0}
-unfolding limit full raised numberOf unchanged dropped written counted answered actIn afterFinding inputOf restOf step run leaving shifted added bitStep bitSteps entered byteStep crc tagCrc pick all byte number double twoBytes part codeIn plIn parametersIn checkRight endRight find sum checkOf checked frameOf frameLength longestCommand longestAnswer pcAndEpc tail answer changed isError passwordIn bankIn pointerIn countIn dataIn ldIn aimRight parseInventory parseRead parseWrite parseLock parseKill parse gone outside inventoryVerdict readVerdict lengthBroken writeVerdict lockVerdict killActs killVerdict verdict actOf bankAt view rssi bankOf wordAt endOf epcLength killPassword accessPassword goodHeader goodBanks goodTag good pairs bitsOf permalocked standingOf standing isSecured isWrong killStandingOf killStanding allows touches mayTouchPasswords mayRead mayWrite newBit newPair newPairs breaks breaksPermalock passwordsAt acceptedBy accepted carries carriesNone noneCarries
+unfolding limit full raised numberOf unchanged dropped written counted answered actIn jobFor decide carriedOut inputOf restOf step run leaving shifted added bitStep bitSteps entered byteStep crc tagCrc pick all byte number double bytesOf part codeIn plIn parametersIn sumRight lastRight find sum checkOf checked frameOf frameLength longestCommand longestAnswer pcAndEpc tail answer changed isError passwordIn bankIn pointerIn countIn dataIn ldIn aimRight parseInventory parseRead parseWrite parseLock parseKill parse gone ifPresent admitted outside inventoryVerdict readAct readVerdict lengthBroken writeAct writeVerdict lockAct lockVerdict killAct killVerdict verdict actOf bankAt view rssi bankOf wordAt endOf epcLength killPassword accessPassword goodHeader goodBanks goodTag good pairs bitsOf permalocked standingOf standing isSecured isWrong killStandingOf killStanding allows touches mayTouchPasswords mayRead mayWrite newBit newPair newPairs breaks breaksPermalock passwordsAt acceptedBy accepted carries carriesNone noneCarries
 everything = tt
 
 pub starred : Starred

@@ -12,19 +12,19 @@ use native.Mathlib.Omega.{arith}
 use Rattle.bench.proofs.Steps.{step-cases}
 use Rattle.bench.specs.Claims.{Overwritten, Effect, NamedWords, WriteEffect, LockEffect, KillEffect, NoOtherEffect, GapsStay, pairsAfter, isGood, isError}
 use Rattle.bench.specs.Machine.{State, Call, Step, numberOf, unchanged, dropped, answered, actIn, restOf, step}
-use Rattle.frame.proofs.Numbers.{length-two-bytes}
+use Rattle.frame.proofs.Numbers.{length-bytes-of}
 use Rattle.frame.proofs.Stores.{take-sets, drop-sets-behind, part-sets, byte-sets-before, byte-sets-behind}
 use Rattle.frame.proofs.Tests.{and-left}
-use Rattle.frame.specs.Bytes.{byte, twoBytes}
-use Rattle.frame.specs.Finding.{codeIn, parametersIn}
+use Rattle.frame.specs.Bytes.{byte, bytesOf, twoBytes}
+use Rattle.frame.specs.Formats.{codeIn, parametersIn}
 use Rattle.tag.proofs.AnswerBytes.{error-code}
 use Rattle.tag.proofs.Cases.{placeOf, newBits, act-cases}
-use Rattle.tag.proofs.GoodImages.{good-facts, header-there}
-use Rattle.tag.proofs.Places.{Inside, inside, data-length}
+use Rattle.image.proofs.GoodImages.{good-facts, header-there}
+use Rattle.tag.proofs.NamedWords.{Inside, inside, data-length}
 use Rattle.tag.specs.Answers.{changed}
 use Rattle.tag.specs.Answers as Answers
 use Rattle.tag.specs.Commands.{bankIn, countIn, dataIn}
-use Rattle.tag.specs.Image.{good, view, wordAt, endOf}
+use Rattle.image.specs.Image.{good, view, wordAt, endOf}
 use Rattle.tag.specs.Locks.{pairs, bitsOf, breaksPermalock}
 use Rattle.tag.specs.declared.commands.Act.{Act}
 
@@ -37,14 +37,14 @@ overwritten at bytes old h =
     }
 
 -- an answered step is good or an error as its act is
-module _ (s : State) (rest : List ℕ) (pl : ℕ) (act : Act) where
-  pub error-is : isError (answered s rest pl act) ≡ Answers.isError act
-  unfolding isError answered numberOf
-  error-is = error-code (s .image) act (s .output)
+module _ (s : State) (rest : List ℕ) (pl : ℕ) where
+  pub error-is : isError (answered s rest pl (actIn s rest)) ≡ Answers.isError (actIn s rest)
+  unfolding isError answered numberOf actIn
+  error-is = error-code (s .image) (parametersIn rest) (codeIn rest) (s .output)
 
-  pub good-is : isGood (answered s rest pl act) ≡ not (Answers.isError act)
-  unfolding isGood answered numberOf
-  good-is = ap not (error-code (s .image) act (s .output))
+  pub good-is : isGood (answered s rest pl (actIn s rest)) ≡ not (Answers.isError (actIn s rest))
+  unfolding isGood answered numberOf actIn
+  good-is = ap not (error-code (s .image) (parametersIn rest) (codeIn rest) (s .output))
 
 -- a step that is not answered is neither
 not-good : (x : Step) → numberOf (x .outcome) ≢ 0 → isGood x ≡ true → ⊥
@@ -65,12 +65,13 @@ module _ (c : Call) (s : State) (at : ℕ) (bytes : List ℕ) (Also : Type 0) wh
   StepEffect : Step → Type 0
   StepEffect x = Effect s x at bytes × (isGood x ≡ true → Also)
 
-  from-answered : (rest : List ℕ) (pl : ℕ) (act : Act) → ActEffect (s .image) (parametersIn rest) at bytes Also act → StepEffect (answered s rest pl act)
+  from-answered : (rest : List ℕ) (pl : ℕ) → ActEffect (s .image) (parametersIn rest) at bytes Also (actIn s rest)
+      → StepEffect (answered s rest pl (actIn s rest))
   unfolding StepEffect answered
-  from-answered rest pl act e =
-      let calm : isGood (answered s rest pl act) ≡ true → Answers.isError act ≡ false = λ h. not-true _ (sym (good-is s rest pl act) ∙ h) in (
+  from-answered rest pl e =
+      let calm : isGood (answered s rest pl (actIn s rest)) ≡ true → Answers.isError (actIn s rest) ≡ false = λ h. not-true _ (sym (good-is s rest pl) ∙ h) in (
         record {
-          error-stores-nothing = λ h. e .error-keeps (sym (error-is s rest pl act) ∙ h);
+          error-stores-nothing = λ h. e .error-keeps (sym (error-is s rest pl) ∙ h);
           good-stores-all = λ h. e .good-stores (calm h);
         },
         λ h. e .good-also (calm h),
@@ -88,7 +89,7 @@ module _ (c : Call) (s : State) (at : ℕ) (bytes : List ℕ) (Also : Type 0) wh
         record { error-stores-nothing = λ h. refl; good-stores-all = λ h. absurd (not-good (dropped s) (omega arith) h) },
         λ h. absurd (not-good (dropped s) (omega arith) h),
       ))
-      (λ r pl a. from-answered (restOf c s) pl (actIn s (restOf c s)) (e (r .image-good)))
+      (λ r pl a. from-answered (restOf c s) pl (e (r .image-good)))
 
 -- ---- the acts
 
@@ -143,7 +144,7 @@ lock-keeps c s code =
     (λ e writes. other _ 0x82 0x49 code e (omega arith))
     (λ e locks.
     stores image p _ _ _ _ refl
-    (overwritten 20 (twoBytes (newBits image p)) image (omega (arith, header-there image h, length-two-bytes (newBits image p))))
+    (overwritten 20 (twoBytes (newBits image p)) image (omega (arith, header-there image h, length-bytes-of 2 (newBits image p))))
     (locks .kept))
     (λ e equal. other _ 0x82 0x65 code e (omega arith))
 
@@ -151,7 +152,7 @@ pub lock-effect : LockEffect
 lock-effect c s code = lock-keeps c s code .0
 
 pub kill-effect : KillEffect
-unfolding StepEffect actIn changed Answers.isError
+unfolding StepEffect actIn changed bytesOf Answers.isError
 kill-effect c s code =
     let image : List ℕ = s .image in
     let p : List ℕ = parametersIn (restOf c s) in
@@ -190,7 +191,7 @@ no-other-effect c s not-write not-lock not-kill =
     (λ e equal. absurd (not-kill e))
 
 pub gaps-stay : GapsStay
-unfolding actIn changed wordAt endOf
+unfolding actIn changed bytesOf wordAt endOf
 gaps-stay c s i far gap =
     let image : List ℕ = s .image in
     let p : List ℕ = parametersIn (restOf c s) in
@@ -202,5 +203,5 @@ gaps-stay c s i far gap =
     ⊎-elim (λ before. byte-sets-before image (placeOf image p) (dataIn p) i (omega arith))
     (λ behind. byte-sets-behind image (placeOf image p) (dataIn p) i (omega (arith, data-length image p writes, writes .aim .inside)))
     (gap (bankIn p) (writes .aim .bank-known)))
-    (λ e secured. byte-sets-behind image 20 (twoBytes (newBits image p)) i (omega (arith, length-two-bytes (newBits image p))))
+    (λ e secured. byte-sets-behind image 20 (twoBytes (newBits image p)) i (omega (arith, length-bytes-of 2 (newBits image p))))
     (λ e equal. byte-sets-behind image 22 (1 ∷ []) i (omega arith))

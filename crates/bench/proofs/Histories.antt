@@ -8,23 +8,22 @@ use mathlib.Core.Path.{_≡_, _∙_}
 use native.Mathlib.Nat.{add-zero, add-assoc}
 use Rattle.bench.proofs.Effects.{error-is, good-is, image-after}
 use Rattle.bench.proofs.Steps.{step-cases}
-use Rattle.bench.proofs.Tallies.{not-full-good, not-full-error, not-full-dropped, raised-below}
+use Rattle.reader.proofs.Tallies.{not-full-good, not-full-error, not-full-dropped, raised-below}
 use Rattle.bench.specs.Claims.{count, isGood, isError, isDropped, History, GoodStaysGood}
-use Rattle.bench.specs.Counts.{full, withGood, withError}
+use Rattle.reader.specs.Tallies.{full, withGood, withError}
 use Rattle.bench.specs.Machine.{State, Call, Step, numberOf, unchanged, dropped, answered, counted, actIn, restOf, step, run, after}
-use Rattle.bench.specs.declared.tally.Tally.{Tally}
+use Rattle.reader.specs.declared.tally.Tally.{Tally}
 use Rattle.bench.specs.declared.outcome.Outcome.{Outcome}
 use Rattle.frame.proofs.Picks.{pick-true, pick-false}
 use Rattle.frame.specs.Bytes.{pick}
-use Rattle.frame.specs.Finding.{codeIn, parametersIn}
+use Rattle.frame.specs.Formats.{codeIn, parametersIn}
 use Rattle.tag.proofs.StaysGood.{stays-good}
 use Rattle.tag.specs.Answers as Answers
-use Rattle.tag.specs.Image.{good}
-use Rattle.tag.specs.declared.commands.Act.{Act}
+use Rattle.image.specs.Image.{good}
 
 -- the tally that a step leaves: each count with one more where the step is of its kind
-abbrev Counts : Tally → Step → Tally
-Counts t x =
+abbrev withStep : Tally → Step → Tally
+withStep t x =
     record {
       good = t .good + pick (isGood x) 1 0;
       error = t .error + pick (isError x) 1 0;
@@ -51,27 +50,27 @@ module _ (x : Step) (m : numberOf (x .outcome) ≢ 0) where
   unfolding isError
   none-error = simp (ne-eqb (numberOf (x .outcome)) 0 m)
 
-unchanged-counts : (s : State) (o : Outcome) → numberOf o ≢ 0 → numberOf o ≢ 3 → unchanged s o .next .tally ≡ Counts (s .tally) (unchanged s o)
+unchanged-counts : (s : State) (o : Outcome) → numberOf o ≢ 0 → numberOf o ≢ 3 → unchanged s o .next .reader .tally ≡ withStep (s .reader .tally) (unchanged s o)
 unfolding unchanged isDropped
 unchanged-counts s o m n =
     simp (none-good (unchanged s o) m, none-error (unchanged s o) m, ne-eqb (numberOf o) 3 n, pick-false, add-zero)
 
-dropped-counts : (s : State) → full (s .tally) ≡ false → dropped s .next .tally ≡ Counts (s .tally) (dropped s)
+dropped-counts : (s : State) → full (s .reader .tally) ≡ false → dropped s .next .reader .tally ≡ withStep (s .reader .tally) (dropped s)
 unfolding dropped isGood isError isDropped numberOf
 dropped-counts s h =
-    simp (raised-below (s .tally .dropped) (not-full-dropped (s .tally) h), pick-true, pick-false, add-zero)
+    simp (raised-below (s .reader .tally .dropped) (not-full-dropped (s .reader .tally) h), pick-true, pick-false, add-zero)
 
-answered-counts : (s : State) (rest : List ℕ) (pl : ℕ) (act : Act) → full (s .tally) ≡ false
-    → answered s rest pl act .next .tally ≡ Counts (s .tally) (answered s rest pl act)
+answered-counts : (s : State) (rest : List ℕ) (pl : ℕ) → full (s .reader .tally) ≡ false
+    → answered s rest pl (actIn s rest) .next .reader .tally ≡ withStep (s .reader .tally) (answered s rest pl (actIn s rest))
 unfolding answered counted isDropped numberOf
-answered-counts s rest pl act h =
-    raises (s .tally) (Answers.isError act) h ∙ simp (good-is s rest pl act, error-is s rest pl act, pick-false)
+answered-counts s rest pl h =
+    raises (s .reader .tally) (Answers.isError (actIn s rest)) h ∙ simp (good-is s rest pl, error-is s rest pl, pick-false)
 
-step-counts : (c : Call) (s : State) → step c s .next .tally ≡ Counts (s .tally) (step c s)
+step-counts : (c : Call) (s : State) → step c s .next .reader .tally ≡ withStep (s .reader .tally) (step c s)
 step-counts c s =
-    step-cases c s (λ (x : Step). x .next .tally ≡ Counts (s .tally) x) (unchanged-counts s)
+    step-cases c s (λ (x : Step). x .next .reader .tally ≡ withStep (s .reader .tally) x) (unchanged-counts s)
     (λ r some. dropped-counts s (r .not-full))
-    (λ r pl a. answered-counts s (restOf c s) pl (actIn s (restOf c s)) (r .not-full))
+    (λ r pl a. answered-counts s (restOf c s) pl (r .not-full))
 
 -- "counts equal those at the start plus the number of such calls in the history"
 pub history : History

@@ -9,5 +9,4 @@ pub mod Permalocked
 pub mod Quiet
 pub mod Secret
 pub mod Steps
-pub mod Tallies
 pub mod Twins

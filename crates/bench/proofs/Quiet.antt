@@ -14,15 +14,15 @@ use Rattle.frame.proofs.Picks.{pick-true, pick-false, by-test}
 use Rattle.frame.proofs.Tests.{and-left, and-right, and-second, or-neither, either}
 use Rattle.frame.specs.Bytes.{pick, double}
 use Rattle.tag.proofs.Cases.{Aimed, act-cases, parse-cases}
-use Rattle.tag.proofs.GoodImages.{Good, good-facts}
-use Rattle.tag.proofs.Places.{inside}
+use Rattle.image.proofs.GoodImages.{Good, good-facts}
+use Rattle.tag.proofs.NamedWords.{inside}
 use Rattle.tag.specs.Commands.{passwordIn, bankIn, pointerIn, countIn, dataIn, ldIn, verdict, actOf, inventoryVerdict, readVerdict, writeVerdict, lockVerdict, killVerdict}
-use Rattle.tag.specs.Image.{good, view, bankOf, killPassword, accessPassword}
+use Rattle.image.specs.Image.{good, view, bankOf, killPassword, accessPassword}
 use Rattle.tag.specs.Locks.{pairs, standingOf, standing, isSecured, killStandingOf, killStanding, allows, touches, mayTouchPasswords, mayRead, mayWrite}
 use Rattle.tag.specs.declared.commands.Act.{Act}
-use Rattle.tag.specs.declared.commands.Act.the-variants.{PlainError, TagError, Notify, Give, Store, SetLocks, SetKilled}
-use Rattle.tag.specs.declared.commands.Command.{Command as Parsed}
-use Rattle.tag.specs.declared.image.View.{View}
+use Rattle.tag.specs.declared.commands.Act.the-variants.{PlainError, TagError, Notify, Give, Store, Set}
+use Rattle.tag.specs.declared.commands.Parsed.{Parsed}
+use Rattle.image.specs.declared.header.View.{View}
 use Rattle.tag.specs.declared.locks.KillStanding.the-variants.{Equal, Different}
 use Rattle.tag.specs.declared.locks.Standing.{Standing}
 use Rattle.tag.specs.declared.locks.Standing.the-variants.{Open, Wrong}
@@ -122,8 +122,7 @@ Public v (TagError e) = Unit
 Public v Notify = Unit
 Public v (Give at n) = v .reserved .offset + 8 ≤ at
 Public v (Store at) = v .reserved .offset + 8 ≤ at
-Public v (SetLocks bits) = ⊥
-Public v SetKilled = ⊥
+Public v (Set code at count value) = ⊥
 
 accessing : (code n : ℕ) → code ≡ n → (eqb n 0x39 || eqb n 0x49 || eqb n 0x82) ≡ true → (eqb code 0x39 || eqb code 0x49 || eqb code 0x82) ≡ true
 accessing code n e h = subst (λ (k : ℕ). (eqb k 0x39 || eqb k 0x49 || eqb k 0x82) ≡ true) (sym e) h

@@ -1,40 +1,35 @@
 -- Demand 3: two runs on images that differ only in hidden passwords, with no command that carries one, are the same call by call.
 use Prim.Native.Nat.{ℕ, _+_, _-_, _≤_, _<_}
-use borrow.Author.Tests.{ltb-false, not-false}
-use lib.Dec.{ltb}
 use lib.ListN.{length, take, drop}
 use lib.Seq.{sets}
-use mathlib.Core.Bool.{true, not}
+use mathlib.Core.Bool.{true}
 use mathlib.Core.List.{List, [], _∷_, _++_}
-use mathlib.Core.Logic.{_⊎_, inl, inr, ⊎-elim}
 use mathlib.Core.Path.{_≡_, refl, ap, ap₂, sym, subst, _∙_}
 use native.Mathlib.Omega.{arith}
 use Rattle.bench.proofs.Quiet.{Kept, Public, untold, public-act, same-act}
-use Rattle.bench.proofs.Steps.{Ready, step-ready}
+use Rattle.bench.proofs.Steps.{jobIn}
 use Rattle.bench.proofs.Twins.{part-behind, same-view, same-rssi, same-epc, same-tail}
 use Rattle.bench.specs.Claims.{Demand3}
-use Rattle.bench.specs.Counts.{full}
-use Rattle.bench.specs.Machine.{State, stateOf, Call, Step, numberOf, unchanged, dropped, answered, counted, actIn, afterFinding, inputOf, restOf, step, run}
+use Rattle.bench.specs.Machine.{State, stateOf, readerOf, Call, Step, numberOf, unchanged, dropped, answered, counted, actIn, decide, carriedOut, restOf, step, run}
+use Rattle.bench.specs.declared.deciding.Job.{Job}
+use Rattle.bench.specs.declared.deciding.Job.the-variants.{Stay, DropByte, CarryOut}
 use Rattle.bench.specs.Secrecy.{passwordsAt, EqualElsewhere, Hidden, Command, acceptedBy, accepted, carriesNone, noneCarries, SameCall, Throughout}
 use Rattle.bench.specs.declared.outcome.Outcome.{Outcome}
-use Rattle.bench.specs.declared.outcome.Outcome.the-variants.{PastEnd, BadImage, ShortOutput, FullTally}
 use Rattle.crc.specs.Crc.{tagCrc}
-use Rattle.frame.proofs.Picks.{pick-true, pick-false}
+use Rattle.frame.proofs.Picks.{pick-true}
 use Rattle.frame.proofs.Stores.{take-sets, drop-sets, number-sets-before}
-use Rattle.frame.proofs.Tests.{either, and-left, and-right, and-both}
+use Rattle.frame.proofs.Tests.{and-left, and-right, and-both}
 use Rattle.frame.specs.Bytes.{all, number, double, part, twoBytes}
-use Rattle.frame.specs.Finding.{find, codeIn, parametersIn}
-use Rattle.frame.specs.Frames.{frameOf, longestAnswer, written}
-use Rattle.frame.specs.declared.finding.Found.{Found}
-use Rattle.frame.specs.declared.finding.Found.the-variants.{End, Drop, Wait, Accept}
-use Rattle.tag.proofs.GoodImages.{Good, good-facts}
+use Rattle.frame.specs.Formats.{codeIn, parametersIn}
+use Rattle.frame.specs.Frames.{frameOf, frameLength, written}
+use Rattle.image.proofs.GoodImages.{Good, good-facts}
 use Rattle.tag.proofs.StaysGood.{stays-good}
 use Rattle.tag.specs.Answers.{answer, changed}
 use Rattle.tag.specs.Commands.{dataIn, actOf}
-use Rattle.tag.specs.Image.{good, view, bankAt, killPassword, accessPassword}
+use Rattle.image.specs.Image.{good, view, bankAt, killPassword, accessPassword}
 use Rattle.tag.specs.declared.commands.Act.{Act}
-use Rattle.tag.specs.declared.image.View.{View}
-use Rattle.tag.specs.declared.commands.Act.the-variants.{PlainError, TagError, Notify, Give, Store, SetLocks, SetKilled}
+use Rattle.image.specs.declared.header.View.{View}
+use Rattle.tag.specs.declared.commands.Act.the-variants.{PlainError, TagError, Notify, Give, Store, Set}
 
 -- ---- a store behind the passwords
 
@@ -120,8 +115,7 @@ module _ (a b x y : List ℕ) (t : Pair a b x y) where
       (part-behind (passwordsAt a) x y (t .elsewhere) at n (omega (arith, t .first .kept .place)))
   same-answer (Store at) p =
       ap (λ (l : List ℕ). frameOf 0x01 0x49 (l ++ (0x00 ∷ []))) (same-tail (passwordsAt a) x y (t .elsewhere) (t .first .kept .place) gx gy)
-  same-answer (SetLocks bits) p = absurd p
-  same-answer SetKilled p = absurd p
+  same-answer (Set code at count value) p = absurd p
 
   -- and leaves the pair a pair
   pair-after : (q : List ℕ) (act : Act) → Public (view x) act → good (changed x q act) ≡ true → good (changed y q act) ≡ true
@@ -138,52 +132,34 @@ module _ (a b x y : List ℕ) (t : Pair a b x y) where
             course-stored b y (t .second) at (dataIn q) (subst (λ (v : View). v .reserved .offset + 8 ≤ at) sight p) hy;
         elsewhere = elsewhere-stored (passwordsAt a) x y (t .elsewhere) at (dataIn q) (omega (arith, t .first .kept .place));
       }
-  pair-after q (SetLocks bits) p hx hy = absurd p
-  pair-after q SetKilled p hx hy = absurd p
+  pair-after q (Set code at count value) p hx hy = absurd p
 
 -- ---- one step
 
 -- the state with another image
 abbrev swap : State → List ℕ → State
-swap s image = record { image = image; output = s .output; cursor = s .cursor; tally = s .tally }
+swap s image = stateOf image (s .output) (s .reader)
 
 record Alike (a b : List ℕ) (x y : Step) : Type 0 where
   outcome : x .outcome ≡ y .outcome
   length : x .length ≡ y .length
   output : x .next .output ≡ y .next .output
-  cursor : x .next .cursor ≡ y .next .cursor
-  tally : x .next .tally ≡ y .next .tally
+  reader : x .next .reader ≡ y .next .reader
   pair : Pair a b (x .next .image) (y .next .image)
 
--- a call is refused by the same test whatever good image stands in the state, or it is refused by none
-refused-or-ready : (c : Call) (s : State)
-    → ((o : Outcome) × ((j : List ℕ) → good j ≡ good (s .image) → step c (swap s j) ≡ unchanged (swap s j) o)) ⊎ Ready c s
-unfolding step longestAnswer inputOf
-refused-or-ready c s =
-    either (ltb (length (inputOf c)) (s .cursor)) (λ past. inl (PastEnd, λ j e. simp (past, pick-true))) λ not-past.
-    either (not (good (s .image))) (λ bad. inl (BadImage, λ j e. simp (not-past, e, bad, pick-true, pick-false))) λ fine.
-    either (ltb (length (s .output)) 136)
-    (λ short. inl (ShortOutput, λ j e. simp (not-past, e, fine, short, pick-true, pick-false)))
-    λ room.
-    either (full (s .tally))
-    (λ full. inl (FullTally, λ j e. simp (not-past, e, fine, room, full, pick-true, pick-false)))
-    λ not-full.
-    inr
-    record {
-      not-past = ltb-false (length (inputOf c)) (s .cursor) not-past;
-      image-good = not-false (good (s .image)) fine;
-      room = ltb-false (length (s .output)) 136 room;
-      not-full = not-full;
-    }
+-- what is decided of a call does not depend on which good image stands in the state
+same-job : (c : Call) (s : State) (j : List ℕ) → good j ≡ good (s .image) → jobIn c (swap s j) ≡ jobIn c s
+unfolding decide
+same-job c s j e = simp e
 
 module _ (a b : List ℕ) (ha : Hidden a) (hb : Hidden b) (s : State) (j : List ℕ) (t : Pair a b (s .image) j) where
   unchanged-alike : (o : Outcome) → Alike a b (unchanged s o) (unchanged (swap s j) o)
   unfolding unchanged
-  unchanged-alike o = record { outcome = refl; length = refl; output = refl; cursor = refl; tally = refl; pair = t }
+  unchanged-alike o = record { outcome = refl; length = refl; output = refl; reader = refl; pair = t }
 
   dropped-alike : Alike a b (dropped s) (dropped (swap s j))
   unfolding dropped
-  dropped-alike = record { outcome = refl; length = refl; output = refl; cursor = refl; tally = refl; pair = t }
+  dropped-alike = record { outcome = refl; length = refl; output = refl; reader = refl; pair = t }
 
   answered-alike : (rest : List ℕ) (pl : ℕ) → carriesNone a b record { code = codeIn rest; parameters = parametersIn rest } ≡ true
       → Alike a b (answered s rest pl (actIn s rest)) (answered (swap s j) rest pl (actIn (swap s j) rest))
@@ -204,45 +180,32 @@ module _ (a b : List ℕ) (ha : Hidden a) (hb : Hidden b) (s : State) (j : List 
         outcome = refl;
         length = ap (λ (l : List ℕ). length l) frames;
         output = ap (λ (l : List ℕ). written l (s .output)) frames;
-        cursor = refl;
-        tally = ap (λ (act : Act). counted act (s .tally)) same;
+        reader = ap (λ (act : Act). readerOf (s .reader .cursor + frameLength pl) (counted act (s .reader .tally))) same;
         pair =
             subst (λ (act : Act). Pair a b (changed x p (actOf x code p)) (changed j p act)) same
             (pair-after a b x j t p (actOf x code p) open-act (stays-good x p code (t .first .kept .image-good))
             (subst (λ (act : Act). good (changed j p act) ≡ true) (sym same) (stays-good j p code (t .second .kept .image-good))));
       }
 
-  found-alike : (rest : List ℕ) (f : Found) → ((pl : ℕ) → f ≡ Accept pl → carriesNone a b record { code = codeIn rest; parameters = parametersIn rest } ≡ true)
-      → Alike a b (afterFinding s rest f) (afterFinding (swap s j) rest f)
-  unfolding afterFinding
-  found-alike rest End quiet = unchanged-alike _
-  found-alike rest Drop quiet = dropped-alike
-  found-alike rest Wait quiet = unchanged-alike _
-  found-alike rest (Accept pl) quiet = answered-alike rest pl (quiet pl refl)
-
-  -- a command that finding accepts in a call that is not refused is among those accepted
-  accepts : (c : Call) → Ready c s → (pl : ℕ) → find (restOf c s) ≡ Accept pl
+  -- a command that is carried out is among those accepted
+  accepts : (c : Call) (pl : ℕ) → jobIn c s ≡ CarryOut pl
       → acceptedBy c s ≡ record { code = codeIn (restOf c s); parameters = parametersIn (restOf c s) } ∷ []
-  unfolding acceptedBy afterFinding answered numberOf
-  accepts c r pl e = simp (step-ready c s r, e, pick-true)
+  unfolding acceptedBy step carriedOut answered numberOf
+  accepts c pl e = simp (e, pick-true)
+
+  job-alike : (c : Call) (job : Job) → jobIn c s ≡ job → noneCarries a b (acceptedBy c s) ≡ true
+      → Alike a b (carriedOut s (restOf c s) job) (carriedOut (swap s j) (restOf c s) job)
+  unfolding carriedOut noneCarries all
+  job-alike c (Stay o) e quiet = unchanged-alike o
+  job-alike c DropByte e quiet = dropped-alike
+  job-alike c (CarryOut pl) e quiet =
+      answered-alike (restOf c s) pl (and-left _ (all []) (subst (λ (l : List Command). noneCarries a b l ≡ true) (accepts c pl e) quiet))
 
   step-alike : (c : Call) → noneCarries a b (acceptedBy c s) ≡ true → Alike a b (step c s) (step c (swap s j))
-  unfolding noneCarries all restOf
+  unfolding step restOf
   step-alike c quiet =
-      let gj : good j ≡ good (s .image) = t .second .kept .image-good ∙ sym (t .first .kept .image-good) in
-      ⊎-elim
-      (λ refused.
-      subst (λ (x : Step). Alike a b x (step c (swap s j))) (sym (refused .1 (s .image) refl))
-      (subst (λ (y : Step). Alike a b (unchanged s (refused .0)) y) (sym (refused .1 j gj)) (unchanged-alike (refused .0))))
-      (λ r.
-      let rj : Ready c (swap s j) =
-      record { not-past = r .not-past; image-good = t .second .kept .image-good; room = r .room; not-full = r .not-full }
-      in
-      subst (λ (x : Step). Alike a b x (step c (swap s j))) (sym (step-ready c s r))
-      (subst (λ (y : Step). Alike a b (afterFinding s (restOf c s) (find (restOf c s))) y) (sym (step-ready c (swap s j) rj))
-      (found-alike (restOf c s) (find (restOf c s))
-      (λ pl e. and-left _ (all []) (subst (λ (l : List Command). noneCarries a b l ≡ true) (accepts c r pl e) quiet)))))
-      (refused-or-ready c s)
+      let same : jobIn c (swap s j) ≡ jobIn c s = same-job c s j (t .second .kept .image-good ∙ sym (t .first .kept .image-good)) in
+      subst (λ (job : Job). Alike a b (step c s) (carriedOut (swap s j) (restOf c s) job)) (sym same) (job-alike c (jobIn c s) refl quiet)
 
 -- ---- the run
 
@@ -261,15 +224,14 @@ same-call a b x y l =
       same-number = ap numberOf (l .outcome);
       same-length = l .length;
       same-output = l .output;
-      same-cursor = l .cursor;
-      same-counts = l .tally;
+      same-reader = l .reader;
       first-kept = l .pair .first .bytes;
       second-kept = l .pair .second .bytes;
       same-elsewhere = l .pair .elsewhere;
     }
 
 swapped : (a b : List ℕ) (x y : Step) → Alike a b x y → swap (x .next) (y .next .image) ≡ y .next
-swapped a b x y l = λ i. record { image = y .next .image; output = l .output i; cursor = l .cursor i; tally = l .tally i }
+swapped a b x y l = λ i. stateOf (y .next .image) (l .output i) (l .reader i)
 
 same-runs : (a b : List ℕ) → Hidden a → Hidden b → (calls : List Call) (s : State) (j : List ℕ) → Pair a b (s .image) j
     → noneCarries a b (accepted calls s) ≡ true → Throughout (SameCall a b) (run calls s) (run calls (swap s j))
@@ -285,8 +247,8 @@ same-runs a b ha hb (c ∷ calls) s j t quiet =
 
 pub demand3 : Demand3
 unfolding passwordsAt
-demand3 a b output cursor tally calls pre =
-    same-runs a b (pre .first-hidden) (pre .second-hidden) calls (stateOf a output cursor tally) b
+demand3 a b output reader calls pre =
+    same-runs a b (pre .first-hidden) (pre .second-hidden) calls (stateOf a output reader) b
     record {
       first =
           record { kept = record { image-good = pre .first-good; place = refl; kill = refl; access = refl; locks = refl }; bytes = refl };

@@ -8,10 +8,10 @@ use mathlib.Core.Path.{_≡_, ap, ap₂, sym, _∙_}
 use native.Mathlib.Omega.{arith}
 use Rattle.bench.specs.Secrecy.{EqualElsewhere, passwordsAt}
 use Rattle.frame.specs.Bytes.{byte, number, part}
-use Rattle.tag.proofs.GoodImages.{Good}
+use Rattle.image.proofs.GoodImages.{Good}
 use Rattle.tag.specs.Answers.{pcAndEpc, tail}
-use Rattle.tag.specs.Image.{view, bankAt, rssi, wordAt, epcLength}
-use Rattle.tag.specs.declared.image.View.{View}
+use Rattle.image.specs.Image.{view, bankAt, rssi, wordAt, epcLength}
+use Rattle.image.specs.declared.header.View.{View}
 
 module _ (at : ℕ) (x y : List ℕ) (e : EqualElsewhere at x y) where
   byte-before : (i : ℕ) → i < at → byte x i ≡ byte y i

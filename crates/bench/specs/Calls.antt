@@ -1,37 +1,20 @@
 -- The step of a call as the code hands it back: image and output in the lent slices, the rest by value.
-use Prim.Native.Nat.{ℕ, _≤_}
-use mathlib.Core.Bool.{true}
+use Prim.Native.Nat.{ℕ}
 use mathlib.Core.List.{List}
 use mathlib.Core.Path.{_≡_}
-use lib.ListN.{length, drop}
-use Rattle.bench.specs.Machine.{State, stateOf, Step, answered, actIn, afterFinding}
+use lib.ListN.{length}
+use Rattle.bench.specs.Machine.{stateOf, Step, decide}
 use Rattle.bench.specs.declared.calling.Called.{Called}
-use Rattle.bench.specs.declared.outcome.Outcome.{Outcome}
-use Rattle.bench.specs.declared.tally.Tally.{Tally}
-use Rattle.frame.specs.Finding.{find}
-use Rattle.frame.specs.declared.finding.Found.the-variants.{Accept}
-use Rattle.tag.specs.Image.{good}
+use Rattle.bench.specs.declared.deciding.Job.{Job}
+use Rattle.bench.specs.declared.deciding.Job.the-variants.{CarryOut}
+use Rattle.reader.specs.declared.state.Reader.{Reader}
 
-abbrev pub left : Called → List ℕ → List ℕ → Step
-left r image output = record { outcome = r .outcome; length = r .length; next = stateOf image output (r .cursor) (r .tally) }
+abbrev pub stepOf : Called → List ℕ → List ℕ → Step
+stepOf r image output = record { outcome = r .outcome; length = r .length; next = stateOf image output (r .reader) }
 
--- a call that ends with nothing changed
-abbrev pub stayed : Outcome → ℕ → Tally → Called
-stayed outcome cursor tally = record { outcome = outcome; length = 0; cursor = cursor; tally = tally }
+-- what a part of a call knows: the job is the one that was decided on, or a command with `pl` parameter bytes is to be carried out
+pub record Decided (input image output : List ℕ) (reader : Reader) (job : Job) : Type 0 where
+  pub is : job ≡ decide input image (length output) reader
 
--- ---- the parts of a call: what the tests before them have shown, and what they come to
-
-pub record Tested (input image output : List ℕ) (cursor : ℕ) : Type 0 where
-  pub not-past : cursor ≤ length input
-  pub image-good : good image ≡ true
-  pub room : 136 ≤ length output
-
-abbrev pub finding : List ℕ → State → Step
-finding input s = afterFinding s (drop (s .cursor) input) (find (drop (s .cursor) input))
-
-pub record Answerable (input image output : List ℕ) (cursor pl : ℕ) : Type 0 where
-  pub tested : Tested input image output cursor
-  pub accepts : find (drop cursor input) ≡ Accept pl
-
-abbrev pub answering : List ℕ → State → ℕ → Step
-answering input s pl = answered s (drop (s .cursor) input) pl (actIn s (drop (s .cursor) input))
+pub record Answerable (input image output : List ℕ) (reader : Reader) (pl : ℕ) : Type 0 where
+  pub is : decide input image (length output) reader ≡ CarryOut pl

@@ -7,18 +7,18 @@ use mathlib.Core.Logic.{_⊎_, _≢_}
 use mathlib.Core.Path.{_≡_}
 use lib.Dec.{eqb, leb, ltb}
 use lib.ListN.{length, take, drop, replicate}
-use Rattle.bench.specs.Counts.{freshTally}
-use Rattle.bench.specs.Machine.{State, stateOf, Call, call, Step, numberOf, inputOf, restOf, actIn, step, run, after}
+use Rattle.reader.specs.Readers.{freshReader}
+use Rattle.bench.specs.Machine.{State, stateOf, Call, call, Step, numberOf, inputOf, restOf, actIn, step, work, run, after}
 use Rattle.bench.specs.Sample.{cases, given, expected}
 use Rattle.bench.specs.Secrecy.{passwordsAt, EqualElsewhere, Hidden, accepted, noneCarries, SameCall, Throughout}
-use Rattle.bench.specs.declared.tally.Tally.{Tally}
+use Rattle.reader.specs.declared.state.Reader.{Reader}
 use Rattle.frame.specs.Bytes.{pick, firstOf, byte, number, part, twoBytes}
-use Rattle.frame.specs.Finding.{codeIn, parametersIn}
+use Rattle.frame.specs.Formats.{codeIn, parametersIn}
 use Rattle.frame.specs.Frames.{sum}
 use Rattle.tag.specs.Answers.{answer}
 use Rattle.tag.specs.Claims.{comesTo}
 use Rattle.tag.specs.Commands.{bankIn, pointerIn, countIn, dataIn, ldIn}
-use Rattle.tag.specs.Image.{good, view, bankOf, endOf, wordAt, killPassword, accessPassword}
+use Rattle.image.specs.Image.{good, view, bankOf, endOf, wordAt, killPassword, accessPassword}
 use Rattle.tag.specs.Locks.{pairs, bitsOf, newPairs}
 use Rattle.tag.specs.declared.locks.Pairs.{Pairs}
 
@@ -42,12 +42,12 @@ AnswerNumbers =
     (c : Call) (s : State)
     → answerOf c s
     ≡ firstOf
-    ((ltb (length (inputOf c)) (s .cursor), 10)
+    ((ltb (length (inputOf c)) (s .reader .cursor), 10)
     ∷ (not (good (s .image)), 11)
     ∷ (ltb (length (s .output)) 136, 12)
-    ∷ (eqb (s .tally .good) 4294967295, 13)
-    ∷ (eqb (s .tally .error) 4294967295, 13)
-    ∷ (eqb (s .tally .dropped) 4294967295, 13)
+    ∷ (eqb (s .reader .tally .good) 4294967295, 13)
+    ∷ (eqb (s .reader .tally .error) 4294967295, 13)
+    ∷ (eqb (s .reader .tally .dropped) 4294967295, 13)
     ∷ (eqb (length (restOf c s)) 0, 1)
     ∷ (not (eqb (byte (restOf c s) 0) 0xBB), 3)
     ∷ (leb 2 (length (restOf c s)) && not (eqb (byte (restOf c s) 1) 0x00), 3)
@@ -70,11 +70,10 @@ DropTakesOneByte =
     → answerOf c s ≡ 3
     → (step c s .length ≡ 0)
     × (step c s .next
-    ≡ record {
-      image = s .image;
-      output = s .output;
-      cursor = s .cursor + 1;
-      tally = record { good = s .tally .good; error = s .tally .error; dropped = s .tally .dropped + 1 };
+    ≡ stateOf (s .image) (s .output)
+    record {
+      cursor = s .reader .cursor + 1;
+      tally = record { good = s .reader .tally .good; error = s .reader .tally .error; dropped = s .reader .tally .dropped + 1 };
     })
 
 -- 0: "one frame at the start of the output; cursor moves over the command"; "Answers have at most 136 bytes."; "Bytes of the output
@@ -84,8 +83,8 @@ pub record OneFrame (c : Call) (s : State) (x : Step) : Type 0 where
   pub at-most-136 : x .length ≤ 136
   pub behind-stays : drop (x .length) (x .next .output) ≡ drop (x .length) (s .output)
   pub room-stays : length (x .next .output) ≡ length (s .output)
-  pub over-the-command : x .next .cursor ≡ s .cursor + (7 + number (restOf c s) 3)
-  pub not-past-the-end : x .next .cursor ≤ length (inputOf c)
+  pub over-the-command : x .next .reader .cursor ≡ s .reader .cursor + (7 + number (restOf c s) 3)
+  pub not-past-the-end : x .next .reader .cursor ≤ length (inputOf c)
 
 abbrev pub AnswerIsOneFrame : Type 0
 AnswerIsOneFrame = (c : Call) (s : State) → answerOf c s ≡ 0 → OneFrame c s (step c s)
@@ -109,18 +108,22 @@ isDropped x = eqb (numberOf (x .outcome)) 3
 abbrev pub History : Type 0
 History =
     (calls : List Call) (s : State)
-    → after calls s .tally
+    → after calls s .reader .tally
     ≡ record {
-      good = s .tally .good + count isGood (run calls s);
-      error = s .tally .error + count isError (run calls s);
-      dropped = s .tally .dropped + count isDropped (run calls s);
+      good = s .reader .tally .good + count isGood (run calls s);
+      error = s .reader .tally .error + count isError (run calls s);
+      dropped = s .reader .tally .dropped + count isDropped (run calls s);
     }
 
--- "From cursor 0 of n bytes (n at most 65,536), with a good image, an output of 136 bytes and a fresh tally, at most n calls answer 0
--- or 3 before one answers 1 or 2." The output may also be longer.
+-- Each answer 0 or 3 lowers the work that is left.
 unfoldable pub takes : Step → Bool
 takes x = eqb (numberOf (x .outcome)) 0 || eqb (numberOf (x .outcome)) 3
 
+abbrev pub WorkFalls : Type 0
+WorkFalls = (input : List ℕ) (s : State) → takes (step (call input) s) ≡ true → work input (step (call input) s .next) < work input s
+
+-- "From cursor 0 of n bytes (n at most 65,536), with a good image, an output of 136 bytes and a fresh tally, at most n calls answer 0
+-- or 3 before one answers 1 or 2." The output may also be longer.
 abbrev pub Bound : Type 0
 Bound =
     (input image output : List ℕ)
@@ -129,9 +132,9 @@ Bound =
     → 136 ≤ length output
     → (k : ℕ)
     × (k ≤ length input)
-    × (count takes (run (replicate k (call input)) (stateOf image output 0 freshTally)) ≡ k)
-    × ((answerOf (call input) (after (replicate k (call input)) (stateOf image output 0 freshTally)) ≡ 1)
-    ⊎ (answerOf (call input) (after (replicate k (call input)) (stateOf image output 0 freshTally)) ≡ 2))
+    × (count takes (run (replicate k (call input)) (stateOf image output freshReader)) ≡ k)
+    × ((answerOf (call input) (after (replicate k (call input)) (stateOf image output freshReader)) ≡ 1)
+    ⊎ (answerOf (call input) (after (replicate k (call input)) (stateOf image output freshReader)) ≡ 2))
 
 -- ---- Demand 2: each command has its effect and answer
 
@@ -220,29 +223,29 @@ PermalockRule =
 -- "Take two good images that differ only in the eight password bytes. All four passwords are nonzero, and both password regions are
 -- locked, for good or not." "Of the commands accepted in either run, no Read, Write or Lock carries an access password of either
 -- image, and no Kill a kill password of either." "with the same cursor, tally and output bytes, whatever these are"
-pub record Premises (a b output : List ℕ) (cursor : ℕ) (tally : Tally) (calls : List Call) : Type 0 where
+pub record Premises (a b output : List ℕ) (reader : Reader) (calls : List Call) : Type 0 where
   pub first-good : good a ≡ true
   pub second-good : good b ≡ true
   pub differ-only : EqualElsewhere (passwordsAt a) a b
   pub first-hidden : Hidden a
   pub second-hidden : Hidden b
-  pub first-run : noneCarries a b (accepted calls (stateOf a output cursor tally)) ≡ true
-  pub second-run : noneCarries a b (accepted calls (stateOf b output cursor tally)) ≡ true
+  pub first-run : noneCarries a b (accepted calls (stateOf a output reader)) ≡ true
+  pub second-run : noneCarries a b (accepted calls (stateOf b output reader)) ≡ true
 
 -- "Then every call of the list gives the same answer number and length in both runs, and leaves the same output bytes, cursor and
 -- counts. The password bytes stay in each run as they were, and the images stay equal elsewhere." For a list of calls of any length.
 abbrev pub Demand3 : Type 0
 Demand3 =
-    (a b output : List ℕ) (cursor : ℕ) (tally : Tally) (calls : List Call)
-    → Premises a b output cursor tally calls
-    → Throughout (SameCall a b) (run calls (stateOf a output cursor tally)) (run calls (stateOf b output cursor tally))
+    (a b output : List ℕ) (reader : Reader) (calls : List Call)
+    → Premises a b output reader calls
+    → Throughout (SameCall a b) (run calls (stateOf a output reader)) (run calls (stateOf b output reader))
 
 -- The premises can be met, by images that do differ, with an accepted inventory, Read, Write, Lock and Kill.
 pub record PremisesMet (a b output : List ℕ) (calls : List Call) : Type 0 where
-  pub premises : Premises a b output 0 freshTally calls
+  pub premises : Premises a b output freshReader calls
   pub kill-differs : killPassword a ≢ killPassword b
   pub access-differs : accessPassword a ≢ accessPassword b
-  pub five-commands : map (λ m. m .code) (accepted calls (stateOf a output 0 freshTally)) ≡ 0x22 ∷ 0x39 ∷ 0x49 ∷ 0x82 ∷ 0x65 ∷ []
+  pub five-commands : map (λ m. m .code) (accepted calls (stateOf a output freshReader)) ≡ 0x22 ∷ 0x39 ∷ 0x49 ∷ 0x82 ∷ 0x65 ∷ []
 
 abbrev pub Demand3CanBeMet : Type 0
 Demand3CanBeMet = (a : List ℕ) × (b : List ℕ) × (output : List ℕ) × (calls : List Call) × PremisesMet a b output calls

@@ -1,32 +1,39 @@
--- Document 01, "Demand 2's machine": a state, one step for each call, and the run of a list of calls.
-use Prim.Native.Nat.{ℕ, _+_}
+-- Document 01, "Demand 2's machine": a state, one step for each call, and the run of a list of calls. A step is decided first, test by test, and then
+-- carried out.
+use Prim.Native.Nat.{ℕ, _+_, _-_}
 use mathlib.Core.Bool.{not}
 use mathlib.Core.List.{List, [], _∷_}
 use lib.Dec.{ltb}
 use lib.ListN.{length, drop}
-use Rattle.bench.specs.Counts.{full, withGood, withError, withDropped}
+use Rattle.bench.specs.declared.deciding.Job.{Job}
+use Rattle.bench.specs.declared.deciding.Job.the-variants.{Stay, DropByte, CarryOut}
 use Rattle.bench.specs.declared.outcome.Outcome.{Outcome}
 use Rattle.bench.specs.declared.outcome.Outcome.the-variants.{Answered, AtEnd, Incomplete, Dropped, PastEnd, BadImage, ShortOutput, FullTally}
-use Rattle.bench.specs.declared.tally.Tally.{Tally}
 use Rattle.frame.specs.Bytes.{pick}
-use Rattle.frame.specs.Finding.{find, codeIn, parametersIn}
+use Rattle.frame.specs.Finding.{find}
+use Rattle.frame.specs.Formats.{commands, codeIn, parametersIn}
 use Rattle.frame.specs.Frames.{frameLength, longestAnswer, written}
 use Rattle.frame.specs.declared.finding.Found.{Found}
 use Rattle.frame.specs.declared.finding.Found.the-variants.{End, Drop, Wait, Accept}
+use Rattle.image.specs.Image.{good}
+use Rattle.reader.specs.Tallies.{full, withGood, withError, withDropped}
+use Rattle.reader.specs.declared.state.Reader.{Reader}
+use Rattle.reader.specs.declared.tally.Tally.{Tally}
 use Rattle.tag.specs.Answers.{answer, changed, isError}
 use Rattle.tag.specs.Commands.{actOf}
-use Rattle.tag.specs.Image.{good}
 use Rattle.tag.specs.declared.commands.Act.{Act}
 
--- "Its state is image, output bytes, cursor and tally."
+-- "Its state is image, output bytes, cursor and tally.": the last two are the reader's own
 pub record State : Type 0 where
   pub image : List ℕ
   pub output : List ℕ
-  pub cursor : ℕ
-  pub tally : Tally
+  pub reader : Reader
 
-abbrev pub stateOf : List ℕ → List ℕ → ℕ → Tally → State
-stateOf image output cursor tally = record { image = image; output = output; cursor = cursor; tally = tally }
+abbrev pub stateOf : List ℕ → List ℕ → Reader → State
+stateOf image output reader = record { image = image; output = output; reader = reader }
+
+abbrev pub readerOf : ℕ → Tally → Reader
+readerOf cursor tally = record { cursor = cursor; tally = tally }
 
 -- "A list of calls feeds it the input bytes of each call."
 pub data Call : Type 0 where
@@ -59,7 +66,7 @@ dropped s =
     record {
       outcome = Dropped;
       length = 0;
-      next = record { image = s .image; output = s .output; cursor = s .cursor + 1; tally = withDropped (s .tally) };
+      next = stateOf (s .image) (s .output) (readerOf (s .reader .cursor + 1) (withDropped (s .reader .tally)));
     }
 
 -- "Each answer 0 or 3 raises exactly one of them by one"
@@ -74,38 +81,50 @@ answered s rest pl act =
       outcome = Answered;
       length = length (answer (s .image) act);
       next =
-          record {
-            image = changed (s .image) (parametersIn rest) act;
-            output = written (answer (s .image) act) (s .output);
-            cursor = s .cursor + frameLength pl;
-            tally = counted act (s .tally);
-          };
+          stateOf (changed (s .image) (parametersIn rest) act) (written (answer (s .image) act) (s .output))
+          (readerOf (s .reader .cursor + frameLength pl) (counted act (s .reader .tally)));
     }
 
 unfoldable pub actIn : State → List ℕ → Act
 actIn s rest = actOf (s .image) (codeIn rest) (parametersIn rest)
 
-unfoldable pub afterFinding : State → List ℕ → Found → Step
-afterFinding s rest End = unchanged s AtEnd
-afterFinding s rest Wait = unchanged s Incomplete
-afterFinding s rest Drop = dropped s
-afterFinding s rest (Accept pl) = answered s rest pl (actIn s rest)
+-- ---- what a call is to do
+
+unfoldable pub jobFor : Found → Job
+jobFor End = Stay AtEnd
+jobFor Wait = Stay Incomplete
+jobFor Drop = DropByte
+jobFor (Accept pl) = CarryOut pl
+
+-- "Tests in the order 10, 11, 12, 13, then the finding rules"; the output has `room` bytes
+unfoldable pub decide : List ℕ → List ℕ → ℕ → Reader → Job
+decide input image room reader =
+    pick (ltb (length input) (reader .cursor)) (Stay PastEnd)
+    (pick (not (good image)) (Stay BadImage)
+    (pick (ltb room longestAnswer) (Stay ShortOutput)
+    (pick (full (reader .tally)) (Stay FullTally)
+    (jobFor (find commands (drop (reader .cursor) input))))))
+
+-- ---- and what that comes to; `rest` is the input from the cursor on
+
+unfoldable pub carriedOut : State → List ℕ → Job → Step
+carriedOut s rest (Stay outcome) = unchanged s outcome
+carriedOut s rest DropByte = dropped s
+carriedOut s rest (CarryOut pl) = answered s rest pl (actIn s rest)
 
 -- "A call looks at the input from the cursor"
 unfoldable pub inputOf : Call → List ℕ
 inputOf (call input) = input
 
 unfoldable pub restOf : Call → State → List ℕ
-restOf c s = drop (s .cursor) (inputOf c)
+restOf c s = drop (s .reader .cursor) (inputOf c)
 
--- "Tests in the order 10, 11, 12, 13, then the finding rules"
 unfoldable pub step : Call → State → Step
-step c s =
-    pick (ltb (length (inputOf c)) (s .cursor)) (unchanged s PastEnd)
-    (pick (not (good (s .image))) (unchanged s BadImage)
-    (pick (ltb (length (s .output)) longestAnswer) (unchanged s ShortOutput)
-    (pick (full (s .tally)) (unchanged s FullTally)
-    (afterFinding s (restOf c s) (find (restOf c s))))))
+step c s = carriedOut s (restOf c s) (decide (inputOf c) (s .image) (length (s .output)) (s .reader))
+
+-- What the input may still ask for: each answer 0 or 3 lowers it. Every count of calls that take something goes by this.
+unfoldable pub work : List ℕ → State → ℕ
+work input s = length input - s .reader .cursor
 
 -- "The steps run in the order of the list of calls, each from the state that the one before left; an empty list of calls
 -- leaves the start." The run has the step of every call; `after` is the state that the last one leaves.

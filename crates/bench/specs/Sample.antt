@@ -1,18 +1,15 @@
 -- Document 01, "The sample tag and its frames": the starred cases, each with all that its call answers and leaves.
-use Prim.Native.Nat.{ℕ, zero, suc, _-_, _/_, _%_}
+use Prim.Native.Nat.{ℕ, _-_}
 use mathlib.Core.List.{List, [], _∷_, _++_}
 use lib.ListN.{length, replicate}
 use lib.Seq.{sets}
-use Rattle.bench.specs.Counts.{freshTally}
-use Rattle.bench.specs.Machine.{call, Step, step}
+use Rattle.frame.specs.Bytes.{bytesOf as bytes}
+use Rattle.reader.specs.Readers.{freshReader}
+use Rattle.reader.specs.Tallies.{freshTally}
+use Rattle.bench.specs.Machine.{stateOf, readerOf, call, Step, step}
 use Rattle.bench.specs.declared.outcome.Outcome.{Outcome}
 use Rattle.bench.specs.declared.outcome.Outcome.the-variants.{Answered, Incomplete, Dropped}
-use Rattle.bench.specs.declared.tally.Tally.{Tally}
-
--- n bytes, written as one number
-abbrev pub bytes : ℕ → ℕ → List ℕ
-bytes zero number = []
-bytes (suc n) number = bytes n (number / 256) ++ (number % 256 ∷ [])
+use Rattle.reader.specs.declared.tally.Tally.{Tally}
 
 -- "Total 86; offsets 24, 32, 48, 54; words 4, 8, 3, 16; locks 0; state 0; RSSI C9 (-55). Both passwords 0000FFFF. EPC bank: 0000 3400
 -- 3075 1FEB 705C 5904 E3D5 0D70. TID all 0. User 1234 5678, then zeros."
@@ -39,24 +36,24 @@ pub record Case : Type 0 where
   pub input : List ℕ
   pub outcome : Outcome
   pub frame : List ℕ
-  pub left : List ℕ
+  pub imageLeft : List ℕ
   pub cursor : ℕ
   pub tally : Tally
 
 abbrev pub given : Case → Step
-given k = step (call (k .input)) record { image = k .image; output = replicate 136 0; cursor = 0; tally = freshTally }
+given k = step (call (k .input)) (stateOf (k .image) (replicate 136 0) freshReader)
 
 abbrev pub expected : Case → Step
 expected k =
     record {
       outcome = k .outcome;
       length = length (k .frame);
-      next = record { image = k .left; output = k .frame ++ replicate (136 - length (k .frame)) 0; cursor = k .cursor; tally = k .tally };
+      next = stateOf (k .imageLeft) (k .frame ++ replicate (136 - length (k .frame)) 0) (readerOf (k .cursor) (k .tally));
     }
 
 abbrev pub case : List ℕ → List ℕ → Outcome → List ℕ → List ℕ → ℕ → Tally → Case
-case image input outcome frame left cursor tally =
-    record { image = image; input = input; outcome = outcome; frame = frame; left = left; cursor = cursor; tally = tally }
+case image input outcome frame imageLeft cursor tally =
+    record { image = image; input = input; outcome = outcome; frame = frame; imageLeft = imageLeft; cursor = cursor; tally = tally }
 
 abbrev pub oneGood : Tally
 oneGood = record { good = 1; error = 0; dropped = 0 }

@@ -8,8 +8,8 @@ use lib.Dec.{eqb, leb}
 use lib.ListN.{length, take, drop}
 use Rattle.bench.specs.Machine.{State, Call, Step, numberOf, step, restOf}
 use Rattle.frame.specs.Bytes.{pick, all, double, part}
-use Rattle.frame.specs.Finding.{codeIn, parametersIn}
-use Rattle.tag.specs.Image.{view, killPassword, accessPassword}
+use Rattle.frame.specs.Formats.{codeIn, parametersIn}
+use Rattle.image.specs.Image.{view, killPassword, accessPassword}
 use Rattle.tag.specs.Locks.{pairs}
 
 -- "the password bytes are the eight of the Reserved bank"
@@ -60,13 +60,12 @@ noneCarries a b [] = all []
 noneCarries a b (m ∷ commands) = carriesNone a b m && noneCarries a b commands
 
 -- One call in both runs: "the same answer number and length in both runs, and leaves the same output bytes, cursor and counts. The
--- password bytes stay in each run as they were, and the images stay equal elsewhere."
+-- password bytes stay in each run as they were, and the images stay equal elsewhere." Cursor and counts are the reader's own state.
 pub record SameCall (a b : List ℕ) (x y : Step) : Type 0 where
   pub same-number : numberOf (x .outcome) ≡ numberOf (y .outcome)
   pub same-length : x .length ≡ y .length
   pub same-output : x .next .output ≡ y .next .output
-  pub same-cursor : x .next .cursor ≡ y .next .cursor
-  pub same-counts : x .next .tally ≡ y .next .tally
+  pub same-reader : x .next .reader ≡ y .next .reader
   pub first-kept : part (x .next .image) (passwordsAt a) 8 ≡ part a (passwordsAt a) 8
   pub second-kept : part (y .next .image) (passwordsAt b) 8 ≡ part b (passwordsAt b) 8
   pub same-elsewhere : EqualElsewhere (passwordsAt a) (x .next .image) (y .next .image)

@@ -1,119 +1,97 @@
-// One call of the bench: the machine's step, on an image and an output that the caller lends.
+// One call of the bench: the machine's step, on an image and an output that the caller lends. What is to be done is decided first, and then done.
+use crate::deciding::Job;
+use crate::deciding::decide;
 use crate::outcome::Outcome;
-use crate::tally::Tally;
 use execution::execute::Executed;
 use execution::execute::execute;
-use frame::finding::Found;
-use frame::finding::find;
-use tag::good::is_good;
+use frame::layout;
+use reader::state::Reader;
 ghost use mathlib.Core.Path.{_≡_};
-ghost use Rattle.bench.specs.Calls.{left, stayed, Tested, Answerable, finding, answering};
+ghost use Rattle.bench.specs.Calls.{stepOf, Decided, Answerable};
 ghost use Rattle.bench.specs.Machine.{call as aCall, stateOf, step};
 
-// What a call hands back beside the image and the output: how it ended, the length of the frame written, and the next cursor and
-// tally.
+// What a call hands back beside the image and the output: how it ended, the length of the frame written, and the reader's state after it.
 pub struct Called {
     pub outcome: Outcome,
     pub length: usize,
-    pub cursor: usize,
-    pub tally: Tally,
+    pub reader: Reader,
 }
 
-// The call ends with nothing changed.
-fn stay(outcome: Outcome, cursor: usize, tally: Tally) -> Called
-    ensures { λ r. ⌜ r ≡ stayed outcome cursor tally ⌝ }
-{
-    Called {
-        outcome,
-        length: 0,
-        cursor,
-        tally,
-    }
-}
-
-// An accepted command with `pl` parameter bytes is carried out, and counted by its answer.
-fn answer(
-    input: &[u8],
-    image: &mut [u8],
-    output: &mut [u8],
-    cursor: usize,
-    tally: Tally,
-    pl: usize,
-) -> Called
-    requires { ⌜ Answerable (now input) (now image) (now output) cursor pl ⌝ }
+// The command at the cursor, with `pl` parameter bytes, is carried out, and counted by its answer.
+fn answer(input: &[u8], image: &mut [u8], output: &mut [u8], reader: Reader, pl: usize) -> Called
+    requires { ⌜ Answerable (now input) (now image) (now output) reader pl ⌝ }
     ensures { λ r. ⌜
-        left r (now (image .exit)) (now (output .exit))
-        ≡ answering (now (input .entry)) (stateOf (now (image .entry)) (now (output .entry)) cursor tally) pl
+        stepOf r (now (image .exit)) (now (output .exit))
+        ≡ step (aCall (now (input .entry))) (stateOf (now (image .entry)) (now (output .entry)) reader)
         ⌝ }
 {
-    let first = cursor + 5;
-    let code = input[cursor + 2];
+    let cursor = reader.cursor;
+    let tally = reader.tally;
+    let first = cursor + layout::PARAMETERS;
+    let code = input[cursor + layout::CODE];
     let executed = execute(image, output, code, &input[first..first + pl]);
-    let next = cursor + 7 + pl;
+    let next = cursor + layout::AROUND + pl;
     match executed {
         Executed::Good(length) => Called {
             outcome: Outcome::Answered,
             length,
-            cursor: next,
-            tally: tally.with_good(),
+            reader: Reader {
+                cursor: next,
+                tally: tally.with_good(),
+            },
         },
         Executed::Error(length) => Called {
             outcome: Outcome::Answered,
             length,
-            cursor: next,
-            tally: tally.with_error(),
+            reader: Reader {
+                cursor: next,
+                tally: tally.with_error(),
+            },
         },
         // It cannot come to that: the image and the output were tested before.
-        Executed::Refused => stay(Outcome::BadImage, cursor, tally),
+        Executed::Refused => Called {
+            outcome: Outcome::BadImage,
+            length: 0,
+            reader,
+        },
     }
 }
 
-// The finding rules on the input from the cursor on.
-fn take(input: &[u8], image: &mut [u8], output: &mut [u8], cursor: usize, tally: Tally) -> Called
-    requires { ⌜ Tested (now input) (now image) (now output) cursor ⌝ }
+// The job that was decided on is done: the one place where anything changes.
+fn carry_out(input: &[u8], image: &mut [u8], output: &mut [u8], reader: Reader, job: Job) -> Called
+    requires { ⌜ Decided (now input) (now image) (now output) reader job ⌝ }
     ensures { λ r. ⌜
-        left r (now (image .exit)) (now (output .exit))
-        ≡ finding (now (input .entry)) (stateOf (now (image .entry)) (now (output .entry)) cursor tally)
+        stepOf r (now (image .exit)) (now (output .exit))
+        ≡ step (aCall (now (input .entry))) (stateOf (now (image .entry)) (now (output .entry)) reader)
         ⌝ }
 {
-    let found = find(&input[cursor..]);
-    match found {
-        Found::End => stay(Outcome::AtEnd, cursor, tally),
-        Found::Wait => stay(Outcome::Incomplete, cursor, tally),
-        Found::Drop => Called {
+    let cursor = reader.cursor;
+    let tally = reader.tally;
+    match job {
+        Job::Stay(outcome) => Called {
+            outcome,
+            length: 0,
+            reader,
+        },
+        Job::DropByte => Called {
             outcome: Outcome::Dropped,
             length: 0,
-            cursor: cursor + 1,
-            tally: tally.with_dropped(),
+            reader: Reader {
+                cursor: cursor + 1,
+                tally: tally.with_dropped(),
+            },
         },
-        Found::Accept(pl) => answer(input, image, output, cursor, tally, pl),
+        Job::CarryOut(pl) => answer(input, image, output, reader, pl),
     }
 }
 
-// For any input, image, output, cursor and tally.
-pub fn call(
-    input: &[u8],
-    image: &mut [u8],
-    output: &mut [u8],
-    cursor: usize,
-    tally: Tally,
-) -> Called
+// For any input, image, output and reader.
+pub fn call(input: &[u8], image: &mut [u8], output: &mut [u8], reader: Reader) -> Called
     ensures { λ r. ⌜
-        left r (now (image .exit)) (now (output .exit))
-        ≡ step (aCall (now (input .entry))) (stateOf (now (image .entry)) (now (output .entry)) cursor tally)
+        stepOf r (now (image .exit)) (now (output .exit))
+        ≡ step (aCall (now (input .entry))) (stateOf (now (image .entry)) (now (output .entry)) reader)
         ⌝ }
 {
-    if input.len() < cursor {
-        return stay(Outcome::PastEnd, cursor, tally);
-    }
-    if !is_good(image) {
-        return stay(Outcome::BadImage, cursor, tally);
-    }
-    if output.len() < 136 {
-        return stay(Outcome::ShortOutput, cursor, tally);
-    }
-    if tally.is_full() {
-        return stay(Outcome::FullTally, cursor, tally);
-    }
-    take(input, image, output, cursor, tally)
+    let job = decide(input, image, output.len(), reader);
+    carry_out(input, image, output, reader, job)
 }

@@ -1,4 +1,4 @@
-// The bench: calls on a state of image, output, cursor and tally (document 01, "Answer numbers of a call").
+// The bench: calls on a state of image, output and reader (document 01, "Answer numbers of a call").
 pub mod calling;
+pub mod deciding;
 pub mod outcome;
-pub mod tally;

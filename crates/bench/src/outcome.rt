@@ -1,4 +1,7 @@
-// How a call ends. `numberOf` in specs/Machine.antt gives document 01's number for each.
+// How a call ends, and document 01's number for each.
+ghost use mathlib.Core.Path.{_≡_};
+ghost use Rattle.bench.specs.Machine.{numberOf};
+
 pub enum Outcome {
     // 0: a command was accepted.
     Answered,
@@ -16,4 +19,19 @@ pub enum Outcome {
     ShortOutput,
     // 13: a tally count is at its limit.
     FullTally,
+}
+
+pub fn number_of(outcome: Outcome) -> u64
+    ensures { λ r. ⌜ r ≡ numberOf outcome ⌝ }
+{
+    match outcome {
+        Outcome::Answered => 0,
+        Outcome::AtEnd => 1,
+        Outcome::Incomplete => 2,
+        Outcome::Dropped => 3,
+        Outcome::PastEnd => 10,
+        Outcome::BadImage => 11,
+        Outcome::ShortOutput => 12,
+        Outcome::FullTally => 13,
+    }
 }

@@ -9,7 +9,7 @@ use mathlib.Core.Logic.{_≢_}
 use mathlib.Core.Path.{_≡_, refl, ap, sym, _∙_}
 use native.Mathlib.Nat.{zero-add}
 use native.Mathlib.Omega.{arith}
-use Rattle.bench.specs.Counts.{freshTally}
+use Rattle.reader.specs.Readers.{freshReader}
 use Rattle.bench.specs.Machine.{State, stateOf, call, after}
 use Rattle.console.specs.Console.{Ran, RanFrom}
 use Rattle.frame.proofs.Tests.{either}
@@ -17,7 +17,7 @@ use Rattle.report.proofs.Fitting.{after-more, splits, some}
 use Rattle.report.proofs.Reports.{none-left}
 use Rattle.report.specs.Pieces.{pieceOf, leftBy}
 use Rattle.report.specs.Report.{stepsFrom, lastState, fresh, filesOf}
-use Rattle.report.specs.Writing.{standing, started, Wrote, Told}
+use Rattle.report.specs.Writing.{stateAt, started, Wrote, Told}
 use Rattle.report.specs.declared.limits.Files.{Files}
 use Rattle.report.specs.declared.limits.Files.the-variants.{Unreadable, TooLong, Fit}
 use Rattle.report.specs.declared.writing.Progress.{Progress}
@@ -29,9 +29,9 @@ pub record Going (commands image₀ output₀ buffer₀ image output buffer : Li
   pub output-length : length output ≡ length output₀
   pub buffer-length : length buffer ≡ length buffer₀
   pub calls : ℕ
-  pub made : standing image output progress ≡ after (replicate calls (call commands)) (stateOf image₀ output₀ 0 freshTally)
-  pub left : calls + length (stepsFrom commands (progress .over) (standing image output progress))
-      ≡ length (stepsFrom commands false (stateOf image₀ output₀ 0 freshTally))
+  pub made : stateAt image output progress ≡ after (replicate calls (call commands)) (stateOf image₀ output₀ freshReader)
+  pub left : calls + length (stepsFrom commands (progress .over) (stateAt image output progress))
+      ≡ length (stepsFrom commands false (stateOf image₀ output₀ freshReader))
 
 pub going : (commands image output buffer : List ℕ) (progress : Progress) → progress ≡ started → Going commands image output buffer image output buffer progress
 unfolding after
@@ -41,15 +41,15 @@ going commands image output buffer progress e =
       output-length = refl;
       buffer-length = refl;
       calls = 0;
-      made = ap (λ (p : Progress). standing image output p) e;
+      made = ap (λ (p : Progress). stateAt image output p) e;
       left = rw e (zero-add _);
     }
 
 module _ (commands image₀ output₀ buffer₀ image output buffer : List ℕ) (progress : Progress)
     (g : Going commands image₀ output₀ buffer₀ image output buffer progress) where
   some-calls : (k : ℕ)
-      × (k ≤ length (stepsFrom commands false (stateOf image₀ output₀ 0 freshTally)))
-      × (image ≡ after (replicate k (call commands)) (stateOf image₀ output₀ 0 freshTally) .image)
+      × (k ≤ length (stepsFrom commands false (stateOf image₀ output₀ freshReader)))
+      × (image ≡ after (replicate k (call commands)) (stateOf image₀ output₀ freshReader) .image)
   some-calls = (g .calls, omega (arith, g .left), ap (λ (s : State). s .image) (g .made))
 
   pub stopped : RanFrom commands image₀ output₀ image false
@@ -58,20 +58,20 @@ module _ (commands image₀ output₀ buffer₀ image output buffer : List ℕ) 
   pub finished : progress .over ≡ true → RanFrom commands image₀ output₀ image true
   unfolding lastState
   finished over =
-      let all : g .calls ≡ length (stepsFrom commands false (stateOf image₀ output₀ 0 freshTally)) =
-      omega (arith, g .left, ap (λ (b : Bool). length (stepsFrom commands b (standing image output progress))) over, ap length (none-left commands (standing image output progress))) in
+      let all : g .calls ≡ length (stepsFrom commands false (stateOf image₀ output₀ freshReader)) =
+      omega (arith, g .left, ap (λ (b : Bool). length (stepsFrom commands b (stateAt image output progress))) over, ap length (none-left commands (stateAt image output progress))) in
       record {
         all-calls =
             λ h.
             ap (λ (s : State). s .image) (g .made)
-            ∙ ap (λ (k : ℕ). after (replicate k (call commands)) (stateOf image₀ output₀ 0 freshTally) .image) all;
+            ∙ ap (λ (k : ℕ). after (replicate k (call commands)) (stateOf image₀ output₀ freshReader) .image) all;
         some-calls = some-calls;
       }
 
 module _ (commands image₀ output₀ buffer₀ image output buffer image′ output′ buffer′ : List ℕ) (progress : Progress) (r : Written)
     (g : Going commands image₀ output₀ buffer₀ image output buffer progress)
     (room : 408 ≤ length buffer₀)
-    (w : Wrote commands buffer buffer′ (standing image output progress) (progress .over) (standing image′ output′ (r .progress)) r)
+    (w : Wrote commands buffer buffer′ (stateAt image output progress) (progress .over) (stateAt image′ output′ (r .progress)) r)
     (same-image : length image′ ≡ length image)
     (same-output : length output′ ≡ length output)
     (same-buffer : length buffer′ ≡ length buffer) where
@@ -79,15 +79,15 @@ module _ (commands image₀ output₀ buffer₀ image output buffer image′ out
   used-there = omega (arith, w .within)
 
   -- the steps of the piece, and those that are left behind it
-  apart : length (pieceOf commands (length buffer) (progress .over) (standing image output progress))
-      + length (stepsFrom commands (r .progress .over) (standing image′ output′ (r .progress)))
-      ≡ length (stepsFrom commands (progress .over) (standing image output progress))
-  apart = rw (w .over-is, w .next-is) (splits commands (length buffer) (progress .over) (standing image output progress) .steps)
+  apart : length (pieceOf commands (length buffer) (progress .over) (stateAt image output progress))
+      + length (stepsFrom commands (r .progress .over) (stateAt image′ output′ (r .progress)))
+      ≡ length (stepsFrom commands (progress .over) (stateAt image output progress))
+  apart = rw (w .over-is, w .next-is) (splits commands (length buffer) (progress .over) (stateAt image output progress) .steps)
 
   pub goes-on : Going commands image₀ output₀ buffer₀ image′ output′ buffer′ (r .progress)
   unfolding leftBy
   goes-on =
-      let k : ℕ = length (pieceOf commands (length buffer) (progress .over) (standing image output progress)) in
+      let k : ℕ = length (pieceOf commands (length buffer) (progress .over) (stateAt image output progress)) in
       record {
         image-length = same-image ∙ g .image-length;
         output-length = same-output ∙ g .output-length;
@@ -96,15 +96,15 @@ module _ (commands image₀ output₀ buffer₀ image output buffer image′ out
         made =
             w .next-is
             ∙ ap (λ (s : State). after (replicate k (call commands)) s) (g .made)
-            ∙ after-more (call commands) (g .calls) k (stateOf image₀ output₀ 0 freshTally);
+            ∙ after-more (call commands) (g .calls) k (stateOf image₀ output₀ freshReader);
         left = omega (arith, g .left, apart);
       }
 
   -- fewer steps are left
   pub nearer : progress .over ≡ false
-      → length (stepsFrom commands (r .progress .over) (standing image′ output′ (r .progress))) < length (stepsFrom commands (progress .over) (standing image output progress))
+      → length (stepsFrom commands (r .progress .over) (stateAt image′ output′ (r .progress))) < length (stepsFrom commands (progress .over) (stateAt image output progress))
   nearer on =
-      omega (arith, apart, rw (← on) at (some commands (length buffer) (standing image output progress) (omega (arith, g .buffer-length))))
+      omega (arith, apart, rw (← on) at (some commands (length buffer) (stateAt image output progress) (omega (arith, g .buffer-length))))
 
 -- ---- the line of files that are not run
 

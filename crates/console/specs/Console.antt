@@ -6,7 +6,7 @@ use mathlib.Core.List.{List}
 use mathlib.Core.Logic.{_≢_}
 use mathlib.Core.Path.{_≡_}
 use lib.ListN.{length, replicate}
-use Rattle.bench.specs.Counts.{freshTally}
+use Rattle.reader.specs.Readers.{freshReader}
 use Rattle.bench.specs.Machine.{State, stateOf, call, after}
 use Rattle.report.specs.Report.{stepsFrom, lastState, fresh, filesOf}
 use Rattle.report.specs.declared.limits.Files.the-variants.{Fit}
@@ -17,7 +17,7 @@ pub record RunFrom (commands : List ℕ) (s : State) (left : List ℕ) (whole : 
   pub some-calls : (k : ℕ) × (k ≤ length (stepsFrom commands false s)) × (left ≡ after (replicate k (call commands)) s .image)
 
 abbrev pub RanFrom : List ℕ → List ℕ → List ℕ → List ℕ → Bool → Type 0
-RanFrom commands image output left whole = RunFrom commands (stateOf image output 0 freshTally) left whole
+RanFrom commands image output left whole = RunFrom commands (stateOf image output freshReader) left whole
 
 pub record Ran (readable : Bool) (commands image left : List ℕ) (whole : Bool) : Type 0 where
   pub not-run : filesOf readable (length commands) (length image) ≢ Fit → left ≡ image

@@ -33,12 +33,12 @@ fn enter(direction: Direction, register: u16, b: u8) -> u16
     ensures { λ r. ⌜ r ≡ entered direction register b ⌝ }
 {
     match direction {
-        Direction::HighFirst => register ^ (wide(b) * 256),
-        Direction::LowFirst => register ^ wide(b),
+        Direction::HighFirst => register ^ (as_u16(b) * 256),
+        Direction::LowFirst => register ^ as_u16(b),
     }
 }
 
-fn wide(b: u8) -> u16
+fn as_u16(b: u8) -> u16
     ensures { λ r. ⌜ r ≡ b ⌝ }
 {
     b as u16

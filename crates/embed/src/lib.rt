@@ -1,63 +1,51 @@
 // The bench for C and Rust: one function on numbers and lent slices. A slice passes as a pointer and a length.
 use bench::calling::call;
-use bench::outcome::Outcome;
-use bench::tally::Tally;
+use bench::outcome::number_of;
+use reader::state::Reader;
+use reader::tally::Tally;
 ghost use mathlib.Core.Path.{_≡_};
 ghost use lib.ListN.{length};
-ghost use Rattle.bench.specs.Machine.{numberOf};
-ghost use Rattle.embed.specs.Packed.{packed, countsOf, leftBy, called};
+ghost use Rattle.embed.specs.Packed.{packed, readerOf, leftBy, called};
 
 // The most that a count of the tally can hold.
 const LIMIT: u64 = 4294967295;
 
-// Three numbers of the packed state, as a tally.
-enum Counts {
-    Fit(Tally),
+// The numbers of the packed state, as a reader's state.
+enum Unpacked {
+    Fit(Reader),
     OutOfRange,
 }
 
-// Document 01's number of an outcome.
-fn number(outcome: Outcome) -> u64
-    ensures { λ r. ⌜ r ≡ numberOf outcome ⌝ }
-{
-    match outcome {
-        Outcome::Answered => 0,
-        Outcome::AtEnd => 1,
-        Outcome::Incomplete => 2,
-        Outcome::Dropped => 3,
-        Outcome::PastEnd => 10,
-        Outcome::BadImage => 11,
-        Outcome::ShortOutput => 12,
-        Outcome::FullTally => 13,
-    }
-}
-
-// The tally of three counts, or that one of them is more than a tally can hold.
-fn tally_of(good: u64, error: u64, dropped: u64) -> Counts
-    ensures { λ r. ⌜ r ≡ countsOf good error dropped ⌝ }
+// The reader of a cursor and three counts, or that a count is more than a tally can hold.
+fn reader_of(cursor: u64, good: u64, error: u64, dropped: u64) -> Unpacked
+    ensures { λ r. ⌜ r ≡ readerOf cursor good error dropped ⌝ }
 {
     if LIMIT < good {
-        return Counts::OutOfRange;
+        return Unpacked::OutOfRange;
     }
     if LIMIT < error {
-        return Counts::OutOfRange;
+        return Unpacked::OutOfRange;
     }
     if LIMIT < dropped {
-        return Counts::OutOfRange;
+        return Unpacked::OutOfRange;
     }
-    Counts::Fit(Tally {
-        good: good as u32,
-        error: error as u32,
-        dropped: dropped as u32,
+    Unpacked::Fit(Reader {
+        cursor: cursor as usize,
+        tally: Tally {
+            good: good as u32,
+            error: error as u32,
+            dropped: dropped as u32,
+        },
     })
 }
 
 // The five numbers of the packed state are stored.
-fn pack(state: &mut [u64], cursor: usize, tally: Tally, written: usize)
+fn pack(state: &mut [u64], reader: Reader, written: usize)
     requires { ⌜ length (now state) ≡ 5 ⌝ }
-    ensures { λ _. ⌜ now (state .exit) ≡ packed cursor tally written ⌝ }
+    ensures { λ _. ⌜ now (state .exit) ≡ packed reader written ⌝ }
 {
-    state[0] = cursor as u64;
+    let tally = reader.tally;
+    state[0] = reader.cursor as u64;
     state[1] = tally.good as u64;
     state[2] = tally.error as u64;
     state[3] = tally.dropped as u64;
@@ -82,12 +70,12 @@ pub extern "C" fn poldrisk_call(
     if state.len() != 5 {
         return 20;
     }
-    let Counts::Fit(tally) = tally_of(state[1], state[2], state[3]) else {
+    let Unpacked::Fit(reader) = reader_of(state[0], state[1], state[2], state[3]) else {
         return 21;
     };
-    let result = call(input, image, output, state[0] as usize, tally);
+    let result = call(input, image, output, reader);
     let outcome = result.outcome;
-    let counted = result.tally;
-    pack(state, result.cursor, counted, result.length);
-    number(outcome)
+    let next = result.reader;
+    pack(state, next, result.length);
+    number_of(outcome)
 }

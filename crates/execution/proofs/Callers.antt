@@ -9,7 +9,7 @@ use Rattle.frame.proofs.Picks.{pick-true, by-test}
 use Rattle.frame.specs.Frames.{written}
 use Rattle.tag.specs.Answers.{answer, changed, isError}
 use Rattle.tag.specs.Commands.{actOf}
-use Rattle.tag.specs.Image.{good}
+use Rattle.image.specs.Image.{good}
 use Rattle.tag.specs.declared.commands.Act.{Act}
 use Rattle.execution.proofs.Executions.{runs}
 use Rattle.execution.proofs.Reaches.{good-in-reach}

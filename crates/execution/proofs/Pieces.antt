@@ -7,44 +7,46 @@ use mathlib.Core.Path.{_≡_, refl, ap, _∙_}
 use native.Mathlib.Omega.{arith}
 use Rattle.crc.specs.Crc.{tagCrc}
 use Rattle.frame.proofs.Copies.{length-part-inside, copied-is}
-use Rattle.frame.proofs.Numbers.{length-two-bytes}
+use Rattle.frame.proofs.Numbers.{length-bytes-of}
+use Rattle.frame.proofs.Stores.{length-put, sets-join, set-join}
 use Rattle.frame.specs.Bytes.{byte, part, twoBytes}
 use Rattle.frame.specs.Closing.{Closing}
 use Rattle.frame.specs.Copying.{copied}
 use Rattle.frame.specs.Frames.{frameOf}
+use Rattle.frame.specs.Putting.{Put}
 use Rattle.tag.specs.Answers.{pcAndEpc, tail, answer}
-use Rattle.tag.specs.Image.{rssi}
+use Rattle.image.specs.Image.{rssi}
 use Rattle.tag.specs.declared.commands.Act.the-variants.{TagError, Notify, Give}
-use Rattle.execution.proofs.Rounds.{length-put, sets-join, set-join, closed-round}
-use Rattle.execution.specs.Putting.{Put, Answered}
+use Rattle.execution.proofs.Rounds.{closed-round}
+use Rattle.execution.specs.Execution.{FrameWritten}
 
 module _ (output : List ℕ) (room : 136 ≤ length output) where
   pub plain-closed : (e : ℕ) (after : List ℕ) (result : ℕ) → Closing 0x01 0xFF 1 (set output 5 e) after result
-      → Answered (frameOf 0x01 0xFF (e ∷ [])) output after result
+      → FrameWritten (frameOf 0x01 0xFF (e ∷ [])) output after result
   plain-closed e after result = closed-round 0x01 0xFF (e ∷ []) output (omega arith) room (set output 5 e) refl 1 refl after result
 
   module _ (image : List ℕ) where
     pub tag-error-closed : (e : ℕ) (stored : List ℕ) (next : ℕ) → Put (tail image) 6 (set output 5 e) stored next → next ≤ 71
-        → (after : List ℕ) (result : ℕ) → Closing 0x01 0xFF (next - 5) stored after result → Answered (answer image (TagError e)) output after result
+        → (after : List ℕ) (result : ℕ) → Closing 0x01 0xFF (next - 5) stored after result → FrameWritten (answer image (TagError e)) output after result
     unfolding answer
     tag-error-closed e stored next put short =
         closed-round 0x01 0xFF (e ∷ tail image) output (omega (arith, put .next-is)) room stored (put .output-is) (next - 5) (omega (arith, put .next-is))
 
     pub done-closed : (code : ℕ) (stored : List ℕ) (next : ℕ) → Put (tail image) 5 output stored next → next ≤ 70
-        → (after : List ℕ) (result : ℕ) → Closing 0x01 code (next - 4) (set stored next 0) after result
-        → Answered (frameOf 0x01 code (tail image ++ (0x00 ∷ []))) output after result
+        → (after : List ℕ) (result : ℕ) → Closing 0x01 code (next + 1 - 5) (set stored next 0) after result
+        → FrameWritten (frameOf 0x01 code (tail image ++ (0x00 ∷ []))) output after result
     done-closed code stored next put short =
         let whole : length (tail image ++ (0x00 ∷ [])) ≡ length (tail image) + 1 = length-append (tail image) (0x00 ∷ []) in
         let joined : set stored next 0 ≡ sets output 5 (tail image ++ (0x00 ∷ [])) =
         rw (put .output-is, put .next-is) (set-join output 5 (tail image) 0)
         in
-        closed-round 0x01 code (tail image ++ (0x00 ∷ [])) output (omega (arith, put .next-is)) room (set stored next 0) joined (next - 4)
+        closed-round 0x01 code (tail image ++ (0x00 ∷ [])) output (omega (arith, put .next-is)) room (set stored next 0) joined (next + 1 - 5)
         (omega (arith, put .next-is))
 
     module _ (at n : ℕ) (there : at + n ≤ length image) (some : n ≤ 64) where
       pub give-closed : (stored : List ℕ) (next : ℕ) → Put (tail image) 5 output stored next → next ≤ 70
           → (copies : List ℕ) → copies ≡ copied image at n stored next
-          → (after : List ℕ) (result : ℕ) → Closing 0x01 0x39 (next + n - 5) copies after result → Answered (answer image (Give at n)) output after result
+          → (after : List ℕ) (result : ℕ) → Closing 0x01 0x39 (next + n - 5) copies after result → FrameWritten (answer image (Give at n)) output after result
       unfolding answer
       give-closed stored next put short copies c =
           let words : length (part image at n) ≡ n = length-part-inside image at n there in
@@ -64,16 +66,16 @@ module _ (output : List ℕ) (room : 136 ≤ length output) where
     pub notify-closed : (strength : ℕ) → strength ≡ byte image 23 → (stored : List ℕ) (next : ℕ)
         → Put (pcAndEpc image) 6 (set output 5 strength) stored next → next ≤ 70
         → (crc : ℕ) → crc ≡ tagCrc (pcAndEpc image) → (numbered : List ℕ) → numbered ≡ sets stored next (twoBytes crc)
-        → (after : List ℕ) (result : ℕ) → Closing 0x02 0x22 (next - 3) numbered after result → Answered (answer image Notify) output after result
+        → (after : List ℕ) (result : ℕ) → Closing 0x02 0x22 (next + 2 - 5) numbered after result → FrameWritten (answer image Notify) output after result
     unfolding answer rssi
     notify-closed strength s stored next put short crc worked numbered two =
         let sum : List ℕ = twoBytes (tagCrc (pcAndEpc image)) in
         let piece : List ℕ = pcAndEpc image ++ sum in
         let whole : length piece ≡ length (pcAndEpc image) + 2 =
-        length-append (pcAndEpc image) sum ∙ ap (λ (n : ℕ). length (pcAndEpc image) + n) (length-two-bytes (tagCrc (pcAndEpc image)))
+        length-append (pcAndEpc image) sum ∙ ap (λ (n : ℕ). length (pcAndEpc image) + n) (length-bytes-of 2 (tagCrc (pcAndEpc image)))
         in
         let joined : sets stored next sum ≡ sets output 5 (byte image 23 ∷ piece) =
         rw (put .output-is, put .next-is, s) (sets-join (set output 5 (byte image 23)) 6 (pcAndEpc image) sum)
         in
         closed-round 0x02 0x22 (byte image 23 ∷ piece) output (omega (arith, put .next-is)) room numbered
-        (two ∙ ap (λ (n : ℕ). sets stored next (twoBytes n)) worked ∙ joined) (next - 3) (omega (arith, put .next-is))
+        (two ∙ ap (λ (n : ℕ). sets stored next (twoBytes n)) worked ∙ joined) (next + 2 - 5) (omega (arith, put .next-is))

@@ -1,52 +1,56 @@
 -- The tests of what a command needs of the image, one by one.
 use Prim.Native.Nat.{ℕ, _-_, _≤_, _<_}
 use borrow.Author.Tests.{le-leb, lt-leb}
+use lib.Dec.{leb}
 use lib.ListN.{length, length-drop}
-use mathlib.Core.Bool.{Bool, true, false}
+use mathlib.Core.Bool.{true, false, and-false}
 use mathlib.Core.List.{List}
-use mathlib.Core.Path.{_≡_, _∙_}
+use mathlib.Core.Path.{_≡_}
+use Rattle.frame.proofs.Tests.{and-right}
 use Rattle.frame.specs.Bytes.{reaches}
 use Rattle.tag.specs.Commands.{dataIn}
-use Rattle.tag.specs.Image.{wordAt, epcLength}
-use Rattle.tag.specs.Places.{EpcPlace}
-use Rattle.tag.specs.declared.commands.Act.{Act}
+use Rattle.image.specs.Image.{wordAt, epcLength}
+use Rattle.image.specs.Spans.{EpcSpan}
 use Rattle.tag.specs.declared.commands.Act.the-variants.{Give, Store}
-use Rattle.tag.specs.declared.image.Place.{Place}
-use Rattle.execution.specs.Reach.{hasEpc, hasNamed, inReach}
+use Rattle.image.specs.declared.header.Span.{Span}
+use Rattle.execution.specs.Reach.{hasEpc, answerable, hasNamed}
 
--- the place of PC and EPC, read by whatever means
-pub epc-had : (image : List ℕ) (p : Place) → EpcPlace image p → reaches image (p .from) (p .count) ≡ hasEpc image
-unfolding hasEpc wordAt epcLength
-epc-had image p read = simp (read .from-is, read .count-is)
-
-module _ (image p : List ℕ) (act : Act) where
-  module _ (at n : ℕ) (told : act ≡ Give at n) where
-    pub given-long : 64 < n → false ≡ hasNamed image p act
-    unfolding hasNamed
-    given-long h = simp (told, lt-leb n 64 h)
-
-    pub given-there : (r : Bool) → n ≤ 64 → r ≡ reaches image at n → r ≡ hasNamed image p act
-    unfolding hasNamed
-    given-there r few e = e ∙ simp (told, le-leb n 64 few)
-
-  module _ (at : ℕ) (told : act ≡ Store at) where
-    pub stored-short : length p < 9 → false ≡ hasNamed image p act
-    unfolding hasNamed
-    stored-short h = simp (told, lt-leb 9 (length p) h)
-
-    pub stored-there : (r : Bool) → 9 ≤ length p → r ≡ reaches image at (length p - 9) → r ≡ hasNamed image p act
-    unfolding hasNamed dataIn
-    stored-there r fields e = e ∙ simp (told, le-leb 9 (length p) fields, length-drop 9 p)
-
-  pub no-header : length image < 24 → false ≡ inReach image p act
-  unfolding inReach
+module _ (image : List ℕ) where
+  pub no-header : length image < 24 → false ≡ answerable image
+  unfolding answerable
   no-header h = simp (lt-leb 24 (length image) h)
 
-  module _ (header : 24 ≤ length image) where
-    pub no-epc : hasEpc image ≡ false → false ≡ inReach image p act
-    unfolding inReach
-    no-epc h = simp (le-leb 24 (length image) header, h)
+  -- the place of PC and EPC, read by whatever means
+  pub epc-had : 24 ≤ length image → (p : Span) → EpcSpan image p → reaches image (p .from) (p .count) ≡ answerable image
+  unfolding answerable hasEpc wordAt epcLength
+  epc-had header p read = simp (le-leb 24 (length image) header, read .from-is, read .count-is)
 
-    pub reach-named : hasEpc image ≡ true → (r : Bool) → r ≡ hasNamed image p act → r ≡ inReach image p act
-    unfolding inReach
-    reach-named h r e = e ∙ simp (le-leb 24 (length image) header, h)
+  pub answerable-epc : answerable image ≡ true → hasEpc image ≡ true
+  unfolding answerable
+  answerable-epc h = and-right (leb 24 (length image)) (hasEpc image) h
+
+module _ (image p : List ℕ) (at : ℕ) where
+  module _ (n : ℕ) where
+    pub given-long : 64 < n → hasNamed image p (Give at n) ≡ false
+    unfolding hasNamed
+    given-long h = simp (lt-leb n 64 h)
+
+    pub given-out : reaches image at n ≡ false → hasNamed image p (Give at n) ≡ false
+    unfolding hasNamed
+    given-out h = simp (h, and-false)
+
+    pub given-there : n ≤ 64 → reaches image at n ≡ true → hasNamed image p (Give at n) ≡ true
+    unfolding hasNamed
+    given-there few h = simp (le-leb n 64 few, h)
+
+  pub stored-short : length p < 9 → hasNamed image p (Store at) ≡ false
+  unfolding hasNamed
+  stored-short h = simp (lt-leb 9 (length p) h)
+
+  pub stored-out : reaches image at (length p - 9) ≡ false → hasNamed image p (Store at) ≡ false
+  unfolding hasNamed dataIn
+  stored-out h = simp (length-drop, h, and-false)
+
+  pub stored-there : 9 ≤ length p → reaches image at (length p - 9) ≡ true → hasNamed image p (Store at) ≡ true
+  unfolding hasNamed dataIn
+  stored-there fields h = simp (length-drop, le-leb 9 (length p) fields, h)

@@ -10,12 +10,12 @@ use native.Mathlib.Omega.{arith}
 use Rattle.frame.proofs.Copies.{reaches-there, length-part-inside, copied-is}
 use Rattle.frame.specs.Bytes.{part}
 use Rattle.frame.specs.Copying.{copied}
+use Rattle.frame.specs.Putting.{Put}
 use Rattle.tag.specs.Answers.{pcAndEpc, tail}
-use Rattle.tag.specs.Image.{view, wordAt, epcLength}
-use Rattle.tag.specs.Places.{EpcPlace}
-use Rattle.tag.specs.declared.image.Place.{Place}
-use Rattle.tag.specs.declared.image.View.{View}
-use Rattle.execution.specs.Putting.{Put}
+use Rattle.image.specs.Image.{view, wordAt, epcLength}
+use Rattle.image.specs.Spans.{EpcSpan}
+use Rattle.image.specs.declared.header.Span.{Span}
+use Rattle.image.specs.declared.header.View.{View}
 use Rattle.execution.specs.Reach.{hasEpc}
 
 -- where the PC stands, and how many bytes it has with the EPC
@@ -38,7 +38,7 @@ module _ (image : List ℕ) (h : hasEpc image ≡ true) where
   length-epc = rw (← epc-is) (length-part-inside image (epcFrom (view image)) (epcBytes (view image)) there)
 
   -- with the place read by whatever means
-  module _ (p : Place) (read : EpcPlace image p) where
+  module _ (p : Span) (read : EpcSpan image p) where
     pub epc-most : p .count ≤ 64
     epc-most = omega (arith, read .count-is, read .count-small)
 

@@ -11,7 +11,7 @@ use Rattle.frame.specs.Frames.{longestAnswer, written}
 use Rattle.tag.specs.Answers.{answer, changed, isError}
 use Rattle.tag.specs.Commands.{actOf}
 use Rattle.tag.specs.declared.commands.Act.{Act}
-use Rattle.execution.specs.Reach.{inReach}
+use Rattle.execution.specs.Reach.{hasNamed, inReach}
 use Rattle.execution.specs.declared.execute.Executed.{Executed}
 use Rattle.execution.specs.declared.execute.Executed.the-variants.{Refused, Good, Error}
 
@@ -44,3 +44,17 @@ pub record Execution (image output : List ℕ) (code : ℕ) (p imageLeft outputL
   pub image-is : imageLeft ≡ imageAfter image output code p
   pub output-is : outputLeft ≡ outputAfter image output code p
   pub result-is : result ≡ resultOf image output code p
+
+-- ---- in parts
+
+-- the frame is written over the output, and the result is its length
+pub record FrameWritten (frame before after : List ℕ) (result : ℕ) : Type 0 where
+  pub output-is : after ≡ written frame before
+  pub length-is : result ≡ length frame
+
+-- what an act alone promises of image and output, those it leaves and its result, where there is room for an answer and the image has
+-- what every answer needs: where it lacks bytes that the act names, nothing changes
+pub record Acted (image output p : List ℕ) (act : Act) (imageLeft outputLeft : List ℕ) (result : Executed) : Type 0 where
+  pub image-is : imageLeft ≡ pick (hasNamed image p act) (changed image p act) image
+  pub output-is : outputLeft ≡ pick (hasNamed image p act) (written (answer image act) output) output
+  pub result-is : result ≡ pick (hasNamed image p act) (reported act (length (answer image act))) Refused

@@ -1,3 +1,2 @@
 pub mod Execution
-pub mod Putting
 pub mod Reach

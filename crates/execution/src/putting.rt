@@ -1,24 +1,27 @@
-// Putting the parameters of an answer into the output, piece behind piece. Each function here returns the place behind its piece.
+// Putting bytes into the output or the image. A function that puts a piece of an answer returns the place behind it.
 use frame::copying::copy;
-use tag::image::epc_place;
+use image::header::epc_span;
 ghost use mathlib.Core.Path.{_≡_};
 ghost use mathlib.Core.Bool.{true};
 ghost use Prim.Native.Nat.{_+_, _≤_};
 ghost use lib.ListN.{length};
 ghost use lib.Seq.{sets};
 ghost use Rattle.crc.specs.Crc.{tagCrc};
-ghost use Rattle.frame.specs.Bytes.{twoBytes};
+ghost use Rattle.frame.specs.Bytes.{bytesOf};
+ghost use Rattle.frame.specs.Putting.{Put};
 ghost use Rattle.tag.specs.Answers.{pcAndEpc, tail};
 ghost use Rattle.execution.specs.Reach.{hasEpc};
-ghost use Rattle.execution.specs.Putting.{Put};
 
-// A number as two bytes, high first.
-pub(crate) fn put_number(bytes: &mut [u8], at: usize, n: usize)
-    requires { ⌜ at + 2 ≤ length (now bytes) ⌝ }
-    ensures { λ r. ⌜ now (bytes .exit) ≡ sets (now (bytes .entry)) at (twoBytes n) ⌝ }
+// The last `count` bytes of a number, high first.
+pub(crate) fn put_bytes(bytes: &mut [u8], at: usize, count: usize, value: usize)
+    requires { ⌜ at + count ≤ length (now bytes) ⌝ }
+    ensures { λ r. ⌜ now (bytes .exit) ≡ sets (now (bytes .entry)) at (bytesOf count value) ⌝ }
 {
-    bytes[at] = (n / 256 % 256) as u8;
-    bytes[at + 1] = (n % 256) as u8;
+    if count == 0 {
+        return;
+    }
+    put_bytes(bytes, at, count - 1, value / 256);
+    bytes[at + (count - 1)] = (value % 256) as u8;
 }
 
 // The PC and the EPC: EPC word 1 and the L words that follow it.
@@ -27,7 +30,7 @@ pub(crate) fn put_pc_and_epc(image: &[u8], output: &mut [u8], at: usize) -> usiz
     ensures { λ r. ⌜ Put (pcAndEpc (now (image .entry))) at (now (output .entry)) (now (output .exit)) r ⌝ }
     ensures { λ r. ⌜ r ≤ at + 64 ⌝ }
 {
-    let place = epc_place(image);
+    let place = epc_span(image);
     copy(image, place.from, place.count, output, at);
     at + place.count
 }
@@ -38,7 +41,7 @@ pub(crate) fn put_tail(image: &[u8], output: &mut [u8], at: usize) -> usize
     ensures { λ r. ⌜ Put (tail (now (image .entry))) at (now (output .entry)) (now (output .exit)) r ⌝ }
     ensures { λ r. ⌜ r ≤ at + 65 ⌝ }
 {
-    let place = epc_place(image);
+    let place = epc_span(image);
     output[at] = place.count as u8;
     put_pc_and_epc(image, output, at + 1)
 }
@@ -48,7 +51,7 @@ pub(crate) fn crc_of_epc(image: &[u8]) -> u16
     requires { ⌜ hasEpc (now image) ≡ true ⌝ }
     ensures { λ r. ⌜ r ≡ tagCrc (pcAndEpc (now (image .entry))) ⌝ }
 {
-    let place = epc_place(image);
+    let place = epc_span(image);
     let from = place.from;
     let to = from + place.count;
     crc::tag_crc(&image[from..to])

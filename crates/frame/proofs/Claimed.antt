@@ -4,8 +4,9 @@ use mathlib.Core.List.{List}
 use mathlib.Core.Path.{refl}
 use native.Mathlib.Nat.{add-assoc}
 use native.Mathlib.Omega.{arith}
+use Rattle.frame.proofs.RoundTrips as RoundTrips
 use Rattle.frame.specs.Bytes.{byte, number, double, part}
-use Rattle.frame.specs.Claims.{Words}
+use Rattle.frame.specs.Claims.{Words, RoundTrip}
 use Rattle.frame.specs.Frames.{sum}
 
 pub words : (bytes : List ℕ) (i n : ℕ) → Words bytes i n
@@ -19,3 +20,6 @@ words bytes i n =
       sum-of-none = refl;
       sum-of-more = refl;
     }
+
+pub round-trip : RoundTrip
+round-trip = RoundTrips.round-trip

@@ -8,7 +8,7 @@ use mathlib.Core.Bool.{true, false}
 use mathlib.Core.List.{List, [], _∷_, _++_, append-assoc}
 use mathlib.Core.Path.{_≡_, refl, sym, ap, _∙_}
 use native.Mathlib.Omega.{arith}
-use Rattle.frame.specs.Bytes.{part, twoBytes}
+use Rattle.frame.specs.Bytes.{part, bytesOf}
 use Rattle.frame.specs.Closing.{closable, closed, closedLength, Closing}
 use Rattle.frame.specs.Frames.{checkOf, checked, frameOf, frameLength, longestAnswer, written}
 use Rattle.frame.proofs.Picks.{pick-true, pick-false}
@@ -32,7 +32,7 @@ fronted type code pl output = set (set (set (set (set output 0 0xBB) 1 type) 2 c
 
 module _ (type code : ℕ) (parameters : List ℕ) (short : length parameters ≤ 129) where
   checked-is : checked type code parameters ≡ type ∷ code ∷ 0 ∷ length parameters ∷ parameters
-  unfolding checked twoBytes
+  unfolding checked bytesOf
   checked-is =
       let high : length parameters / 256 % 256 ≡ 0 = omega arith in
       let low : length parameters % 256 ≡ length parameters = omega arith in

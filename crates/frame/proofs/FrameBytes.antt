@@ -5,11 +5,11 @@ use lib.Seq.{take-append-seam, drop-append-seam}
 use mathlib.Core.List.{List}
 use mathlib.Core.Path.{_≡_, refl}
 use native.Mathlib.Omega.{arith}
-use Rattle.frame.specs.Bytes.{byte, twoBytes, part}
+use Rattle.frame.specs.Bytes.{byte, bytesOf, part}
 use Rattle.frame.specs.Frames.{checked, frameOf, written}
 
 pub length-frame : (type code : ℕ) (p : List ℕ) → length (frameOf type code p) ≡ 7 + length p
-unfolding frameOf checked twoBytes
+unfolding frameOf checked bytesOf
 length-frame type code p = simp length-append (omega arith)
 
 pub code-frame : (type code : ℕ) (p output : List ℕ) → byte (written (frameOf type code p) output) 2 ≡ code

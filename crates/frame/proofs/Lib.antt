@@ -6,6 +6,7 @@ pub mod Finds
 pub mod FrameBytes
 pub mod Numbers
 pub mod Picks
+pub mod RoundTrips
 pub mod Rules
 pub mod Stores
 pub mod Sums

@@ -1,12 +1,13 @@
 -- Laws of a run of stores, `sets l i vs`: what stands before it and behind it stays, and in it stand the new bytes.
 use Prim.Native.Nat.{ℕ, zero, suc, _+_, _≤_, _<_}
 use lib.ListN.{length, take, drop, set, length-set}
-use lib.Seq.{sets, sets-eq, take-set-le, drop-set-lt, drop-set-add, getD-set-same, getD-set-other, take-at, drop-at, length-take-le}
+use lib.Seq.{sets, length-sets, sets-eq, take-set-le, drop-set-lt, drop-set-add, getD-set-same, getD-set-other, take-at, drop-at, length-take-le}
 use mathlib.Core.List.{List, [], _∷_, _++_, append-assoc}
 use mathlib.Core.Path.{_≡_, refl, sym, ap, _∙_}
 use native.Mathlib.Nat.{add-suc}
 use native.Mathlib.Omega.{arith}
 use Rattle.frame.specs.Bytes.{byte, number, part}
+use Rattle.frame.specs.Putting.{Put}
 
 -- ---- parts of the list
 
@@ -31,6 +32,20 @@ part-sets l i vs h =
     ap (λ (t : List ℕ). take (length vs) (drop i t)) (sets-eq vs l i h ∙ append-assoc (take i l) vs (drop (i + length vs) l))
     ∙ ap (λ (t : List ℕ). take (length vs) t) (drop-at (take i l) (vs ++ drop (i + length vs) l) i (length-take-le i l (omega arith)))
     ∙ take-at vs (drop (i + length vs) l) (length vs) refl
+
+-- ---- pieces one behind the other
+
+pub length-put : (piece : List ℕ) (at : ℕ) (before after : List ℕ) (next : ℕ) → Put piece at before after next → length after ≡ length before
+length-put piece at before after next put = ap length (put .output-is) ∙ length-sets before at piece
+
+pub sets-join : (l : List ℕ) (i : ℕ) (vs ws : List ℕ) → sets (sets l i vs) (i + length vs) ws ≡ sets l i (vs ++ ws)
+sets-join l i [] ws = ap (λ (k : ℕ). sets l k ws) (omega arith)
+sets-join l i (v ∷ vs) ws =
+    ap (λ (k : ℕ). sets (sets (set l i v) (suc i) vs) k ws) (omega arith) ∙ sets-join (set l i v) (suc i) vs ws
+
+-- a byte stored behind a piece
+pub set-join : (l : List ℕ) (i : ℕ) (vs : List ℕ) (w : ℕ) → set (sets l i vs) (i + length vs) w ≡ sets l i (vs ++ (w ∷ []))
+set-join l i vs w = sets-join l i vs (w ∷ [])
 
 -- ---- single bytes and numbers
 

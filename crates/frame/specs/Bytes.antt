@@ -1,7 +1,7 @@
 -- Numbers and parts of byte lists, as document 01 speaks of them, and the choice by a test in which its rules are written.
-use Prim.Native.Nat.{ℕ, _+_, _*_, _/_, _%_}
+use Prim.Native.Nat.{ℕ, zero, suc, _+_, _*_, _/_, _%_}
 use mathlib.Core.Bool.{Bool, true, false, _&&_}
-use mathlib.Core.List.{List, [], _∷_}
+use mathlib.Core.List.{List, [], _∷_, _++_}
 use lib.Dec.{leb}
 use lib.ListN.{length, getD, take, drop}
 
@@ -30,9 +30,13 @@ number bytes i = byte bytes i * 256 + byte bytes (i + 1)
 unfoldable pub double : List ℕ → ℕ → ℕ
 double bytes i = number bytes i * 65536 + number bytes (i + 2)
 
--- a number as two bytes, "high first"
-unfoldable pub twoBytes : ℕ → List ℕ
-twoBytes n = n / 256 % 256 ∷ n % 256 ∷ []
+-- the last n bytes of a number, "high first"; and a number as two bytes
+unfoldable pub bytesOf : ℕ → ℕ → List ℕ
+bytesOf zero value = []
+bytesOf (suc n) value = bytesOf n (value / 256) ++ (value % 256 ∷ [])
+
+abbrev pub twoBytes : ℕ → List ℕ
+twoBytes value = bytesOf 2 value
 
 -- the n bytes from i on
 unfoldable pub part : List ℕ → ℕ → ℕ → List ℕ

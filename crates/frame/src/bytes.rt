@@ -13,7 +13,8 @@ pub fn byte_at(bytes: &[u8], i: usize) -> u8
     0
 }
 
-fn wide(b: u8) -> usize
+// A byte as a number.
+pub fn wide(b: u8) -> usize
     ensures { λ r. ⌜ r ≡ b ⌝ }
 {
     b as usize

@@ -3,6 +3,7 @@ use crate::bytes::number_at;
 use crate::check::check;
 ghost use mathlib.Core.Path.{_≡_};
 ghost use Rattle.frame.specs.Finding.{find};
+ghost use Rattle.frame.specs.Formats.{commands};
 
 // What the finding rules make of the input from the cursor on.
 pub enum Found {
@@ -19,7 +20,7 @@ pub enum Found {
 // The rules in their order, each answer at the first test that settles it: no byte behind the frame is looked at,
 // so no more than 87, and the check is taken of the frame's own bytes.
 pub fn find(rest: &[u8]) -> Found
-    ensures { λ r. ⌜ r ≡ find (now (rest .entry)) ⌝ }
+    ensures { λ r. ⌜ r ≡ find commands (now (rest .entry)) ⌝ }
 {
     if rest.len() == 0 {
         return Found::End;

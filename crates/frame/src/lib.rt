@@ -4,3 +4,4 @@ pub mod check;
 pub mod closing;
 pub mod copying;
 pub mod finding;
+pub mod layout;

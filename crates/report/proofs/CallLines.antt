@@ -7,25 +7,25 @@ use mathlib.Core.Path.{_≡_, ap, sym, subst, _∙_}
 use native.Mathlib.Omega.{arith}
 use Rattle.bench.proofs.Answering.{framed}
 use Rattle.bench.proofs.Steps.{step-cases}
-use Rattle.bench.specs.Calls.{left}
+use Rattle.bench.specs.Calls.{stepOf}
 use Rattle.bench.specs.Machine.{stateOf}
 use Rattle.bench.specs.Machine.{State, Call, call, Step, numberOf, unchanged, dropped, answered, actIn, restOf, step}
 use Rattle.bench.specs.declared.calling.Called.{Called}
 use Rattle.bench.specs.declared.outcome.Outcome.{Outcome}
 use Rattle.bench.specs.declared.outcome.Outcome.the-variants.{Answered}
-use Rattle.bench.specs.declared.tally.Tally.{Tally}
+use Rattle.reader.specs.declared.tally.Tally.{Tally}
 use Rattle.frame.proofs.FrameBytes.{length-frame}
 use Rattle.frame.specs.Bytes.{byte}
 use Rattle.frame.specs.Frames.{frameOf}
 use Rattle.tag.specs.Answers.{answer}
 use Rattle.tag.specs.declared.commands.Act.{Act}
-use Rattle.tag.specs.declared.commands.Act.the-variants.{PlainError, TagError, Notify, Give, Store, SetLocks, SetKilled}
+use Rattle.tag.specs.declared.commands.Act.the-variants.{PlainError, TagError, Notify, Give, Store, Set}
 use Rattle.report.specs.Lines.{dropLine, countsLine, lineFor, lineOf, ends}
 use Rattle.report.specs.Writing.{Line, Framed, Printable, Printed, OneLine}
 use Rattle.report.specs.declared.writing.Room.the-variants.{Enough}
 
 pub printed-as : (o : Outcome) (input : List ℕ) (cursor : ℕ) (r : Called) (output : List ℕ) (at : ℕ) (before after : List ℕ) (next : ℕ) → r .outcome ≡ o
-    → Line (lineFor o (take (r .length) output) (byte input cursor) (r .tally) (length input - r .cursor)) at before after next
+    → Line (lineFor o (take (r .length) output) (byte input cursor) (r .reader .tally) (length input - r .reader .cursor)) at before after next
     → Printed input cursor r output at before after next
 printed-as o input cursor r output at before after next e line = rw e line
 
@@ -48,8 +48,7 @@ answer-some image (TagError e) = frame-some _ _ _
 answer-some image Notify = frame-some _ _ _
 answer-some image (Give at n) = frame-some _ _ _
 answer-some image (Store at) = frame-some _ _ _
-answer-some image (SetLocks bits) = frame-some _ _ _
-answer-some image SetKilled = frame-some _ _ _
+answer-some image (Set code at count value) = frame-some _ _ _
 
 step-framed : (c : Call) (s : State) → step c s .outcome ≡ Answered → Framed (step c s .length) (length (step c s .next .output))
 unfolding unchanged dropped answered numberOf
@@ -67,7 +66,7 @@ step-framed c s =
 
 -- ---- what is known of a call that was made
 
-module _ (input : List ℕ) (s : State) (r : Called) (image output : List ℕ) (made : left r image output ≡ step (call input) s) where
+module _ (input : List ℕ) (s : State) (r : Called) (image output : List ℕ) (made : stepOf r image output ≡ step (call input) s) where
   pub called-printable : (buffer : List ℕ) (at : ℕ) → at + 408 ≤ length buffer → Printable r output buffer at
   called-printable buffer at room =
       record {
@@ -76,9 +75,9 @@ module _ (input : List ℕ) (s : State) (r : Called) (image output : List ℕ) (
         room = room;
       }
 
-  pub called-line : (at : ℕ) (before after : List ℕ) (next : ℕ) (over : Bool) → Printed input (s .cursor) r output at before after next → over ≡ ends (r .outcome)
-      → OneLine input s at before after (stateOf image output (r .cursor) (r .tally))
-      record { room = Enough; used = next; progress = record { cursor = r .cursor; tally = r .tally; over = over } }
+  pub called-line : (at : ℕ) (before after : List ℕ) (next : ℕ) (over : Bool) → Printed input (s .reader .cursor) r output at before after next → over ≡ ends (r .outcome)
+      → OneLine input s at before after (stateOf image output (r .reader))
+      record { room = Enough; used = next; progress = record { reader = r .reader; over = over } }
   unfolding lineOf
   called-line at before after next over line last =
       record {

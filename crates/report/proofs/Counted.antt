@@ -14,7 +14,7 @@ use Rattle.bench.specs.Claims.{count, isGood, isError}
 use Rattle.bench.specs.Machine.{State, call, Step, numberOf, unchanged, dropped, answered, inputOf, restOf, step, run, after}
 use Rattle.bench.specs.declared.outcome.Outcome.{Outcome}
 use Rattle.bench.specs.declared.outcome.Outcome.the-variants.{Answered, AtEnd, Incomplete, Dropped, PastEnd, BadImage, ShortOutput, FullTally}
-use Rattle.bench.specs.declared.tally.Tally.{Tally}
+use Rattle.reader.specs.declared.tally.Tally.{Tally}
 use Rattle.frame.specs.Bytes.{pick, byte, number}
 use Rattle.report.specs.Claims.{isFrame, CountsAreLines, tookBy, took, BytesAddUp}
 use Rattle.report.specs.Report.{fresh}
@@ -58,21 +58,21 @@ took-none FullTally not0 not3 pl = refl
 module _ (input : List ℕ) where
   -- the cursor moves over what a call takes, and never past the end
   record Over (s : State) (x : Step) : Type 0 where
-    moved : x .next .cursor ≡ s .cursor + tookBy (x .outcome) (number (drop (s .cursor) input) 3)
-    within : s .cursor ≤ length input → x .next .cursor ≤ length input
+    moved : x .next .reader .cursor ≡ s .reader .cursor + tookBy (x .outcome) (number (drop (s .reader .cursor) input) 3)
+    within : s .reader .cursor ≤ length input → x .next .reader .cursor ≤ length input
 
   over : (s : State) → Over s (step (call input) s)
   unfolding unchanged dropped answered numberOf tookBy restOf inputOf
   over s =
       step-cases (call input) s (λ (x : Step). Over s x)
-      (λ o m n. record { moved = omega (arith, took-none o m n (number (drop (s .cursor) input) 3)); within = λ h. h })
-      (λ r some. record { moved = refl; within = λ h. omega (arith, length-drop (s .cursor) input) })
+      (λ o m n. record { moved = omega (arith, took-none o m n (number (drop (s .reader .cursor) input) 3)); within = λ h. h })
+      (λ r some. record { moved = refl; within = λ h. omega (arith, length-drop (s .reader .cursor) input) })
       (λ r pl a.
       let f = framed (call input) s r pl a in
       record { moved = f .over-the-command; within = λ h. f .not-past-the-end })
 
-  all-over : (k : ℕ) (s : State) → s .cursor ≤ length input
-      → took input s (run (replicate k (call input)) s) + (length input - after (replicate k (call input)) s .cursor) ≡ length input - s .cursor
+  all-over : (k : ℕ) (s : State) → s .reader .cursor ≤ length input
+      → took input s (run (replicate k (call input)) s) + (length input - after (replicate k (call input)) s .reader .cursor) ≡ length input - s .reader .cursor
   unfolding took run after
   all-over zero s h = omega arith
   all-over (suc k) s h =

@@ -7,8 +7,8 @@ use lib.Seq.{sets}
 use mathlib.Core.List.{List, [], _∷_, _++_}
 use mathlib.Core.Path.{_≡_, refl, ap, sym, _∙_}
 use native.Mathlib.Omega.{arith}
-use Rattle.execution.proofs.Rounds.{set-join}
-use Rattle.execution.specs.Putting.{Put}
+use Rattle.frame.proofs.Stores.{set-join}
+use Rattle.frame.specs.Putting.{Put}
 use Rattle.frame.proofs.Picks.{by-test, pick-true, pick-false}
 use Rattle.frame.proofs.Tests.{either}
 use Rattle.frame.specs.Bytes.{pick}

@@ -4,7 +4,7 @@ use lib.ListN.{set}
 use mathlib.Core.List.{List, [], _∷_, _++_}
 use mathlib.Core.Path.{_≡_, refl}
 use native.Mathlib.Omega.{arith}
-use Rattle.execution.specs.Putting.{Put}
+use Rattle.frame.specs.Putting.{Put}
 use Rattle.report.specs.Digits.{hexDigit, hexByte}
 
 pub hex-put : (buffer : List ℕ) (at b behind high low : ℕ) → high ≡ hexDigit (b / 16) → low ≡ hexDigit (b % 16)

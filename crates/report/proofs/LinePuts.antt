@@ -6,9 +6,9 @@ use mathlib.Core.List.{List, [], _∷_, _++_}
 use mathlib.Core.Path.{_≡_, refl, ap, sym, _∙_}
 use native.Mathlib.Numerals.{add-one}
 use native.Mathlib.Omega.{arith}
-use Rattle.bench.specs.declared.tally.Tally.{Tally}
-use Rattle.execution.proofs.Rounds.{sets-join}
-use Rattle.execution.specs.Putting.{Put}
+use Rattle.reader.specs.declared.tally.Tally.{Tally}
+use Rattle.frame.proofs.Stores.{sets-join}
+use Rattle.frame.specs.Putting.{Put}
 use Rattle.frame.proofs.Copies.{copied-is}
 use Rattle.frame.specs.Bytes.{part}
 use Rattle.frame.specs.Copying.{copied}

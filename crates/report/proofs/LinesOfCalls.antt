@@ -11,7 +11,7 @@ use Rattle.bench.specs.Claims.{answerOf}
 use Rattle.bench.specs.Machine.{State, call, Step, numberOf, step}
 use Rattle.bench.specs.declared.outcome.Outcome.{Outcome}
 use Rattle.bench.specs.declared.outcome.Outcome.the-variants.{Answered, AtEnd, Incomplete, Dropped, PastEnd, BadImage, ShortOutput, FullTally}
-use Rattle.bench.specs.declared.tally.Tally.{Tally}
+use Rattle.reader.specs.declared.tally.Tally.{Tally}
 use Rattle.frame.specs.Bytes.{pick, byte}
 use Rattle.report.specs.Claims.{FrameLines, DropLines, CountLines, RefusedLines}
 use Rattle.report.specs.Lines.{frameLine, countsLine, refusedLine, lineFor, lineOf}
@@ -41,12 +41,12 @@ named FullTally = refl
 
 line-as : (input : List ℕ) (s : State) (n : ℕ) → answerOf (call input) s ≡ n
     → lineOf input s (step (call input) s)
-    ≡ lineFor (outcomeOf n) (take (step (call input) s .length) (step (call input) s .next .output)) (byte input (s .cursor))
-    (step (call input) s .next .tally) (length input - step (call input) s .next .cursor)
+    ≡ lineFor (outcomeOf n) (take (step (call input) s .length) (step (call input) s .next .output)) (byte input (s .reader .cursor))
+    (step (call input) s .next .reader .tally) (length input - step (call input) s .next .reader .cursor)
 unfolding lineOf
 line-as input s n e =
     let x : Step = step (call input) s in
-    ap (λ (o : Outcome). lineFor o (take (x .length) (x .next .output)) (byte input (s .cursor)) (x .next .tally) (length input - x .next .cursor))
+    ap (λ (o : Outcome). lineFor o (take (x .length) (x .next .output)) (byte input (s .reader .cursor)) (x .next .reader .tally) (length input - x .next .reader .cursor))
     (sym (named (x .outcome)) ∙ ap outcomeOf e)
 
 of-refused : (frame : List ℕ) (b : ℕ) (t : Tally) (left : ℕ) (o : Outcome) → 10 ≤ numberOf o → lineFor o frame b t left ≡ refusedLine (numberOf o)
@@ -70,9 +70,9 @@ drop-lines input s three = line-as input s 3 three
 
 -- nothing changes under answers 1 and 2, so that the counts are those before the call
 counts-before : (input : List ℕ) (s : State) → answerOf (call input) s ≢ 0 → answerOf (call input) s ≢ 3
-    → countsLine (step (call input) s .next .tally) (length input - step (call input) s .next .cursor) ≡ countsLine (s .tally) (length input - s .cursor)
+    → countsLine (step (call input) s .next .reader .tally) (length input - step (call input) s .next .reader .cursor) ≡ countsLine (s .reader .tally) (length input - s .reader .cursor)
 counts-before input s not0 not3 =
-    ap (λ (t : State). countsLine (t .tally) (length input - t .cursor)) (nothing-changes (call input) s not0 not3 .0)
+    ap (λ (t : State). countsLine (t .reader .tally) (length input - t .reader .cursor)) (nothing-changes (call input) s not0 not3 .0)
 
 pub count-lines : CountLines
 unfolding lineFor outcomeOf pick

@@ -9,15 +9,15 @@ use mathlib.Core.List.{List, [], _++_, append-assoc, append-nil}
 use mathlib.Core.Path.{_≡_, refl, ap, sym, _∙_}
 use native.Mathlib.Nat.{zero-add, sub-zero}
 use native.Mathlib.Omega.{arith}
-use Rattle.bench.specs.Machine.{State, Call, call, Step, step, after}
-use Rattle.execution.specs.Putting.{Put}
+use Rattle.bench.specs.Machine.{State, Call, call, Step, step, work, after}
+use Rattle.frame.specs.Putting.{Put}
 use Rattle.frame.proofs.Picks.{pick-true, pick-false}
 use Rattle.frame.proofs.Tests.{either}
 use Rattle.frame.specs.Bytes.{pick}
 use Rattle.frame.specs.Frames.{written}
 use Rattle.report.proofs.Fitting.{over-is, no-room, piece-over, piece-more}
 use Rattle.report.proofs.Puts.{put-join}
-use Rattle.report.proofs.Reports.{moves, one-left}
+use Rattle.report.proofs.Reports.{less-left, one-left}
 use Rattle.report.specs.Lines.{lineOf, ends}
 use Rattle.report.specs.Pieces.{pieceOf, leftBy, overBy}
 use Rattle.report.specs.Report.{stepsFrom, linesOf}
@@ -100,13 +100,12 @@ module _ (input before : List ℕ) (start : State) (over₀ : Bool) where
 
 -- each line leaves less to write
 pub falls : (input buffer after : List ℕ) (at : ℕ) (s next : State) (over : Bool) (r : Written) → over ≡ false → OneLine input s at buffer after next r
-    → pick (r .progress .over) 0 (suc (length input - next .cursor)) < pick over 0 (suc (length input - s .cursor))
+    → pick (r .progress .over) 0 (suc (work input next)) < pick over 0 (suc (work input s))
 falls input buffer after at s next over r not-over one =
     either (r .progress .over) (λ last. simp (last, not-over, pick-true, pick-false) (omega arith))
     (λ more.
-    let on = moves input s (sym (one .over-is) ∙ more) in
-    let there : next .cursor ≡ step (call input) s .next .cursor = ap (λ (t : State). t .cursor) (one .next-is) in
-    simp (more, not-over, pick-false) (omega (arith, there, on .on, on .within)))
+    let less = less-left input s (sym (one .over-is) ∙ more) in
+    simp (one .next-is, more, not-over, pick-false) (omega arith))
 
 -- ---- what a call of `write` comes to
 

@@ -5,8 +5,8 @@ use lib.Seq.{sets, set-comm}
 use mathlib.Core.List.{List, [], _∷_, _++_}
 use mathlib.Core.Path.{_≡_, refl, ap, _∙_}
 use native.Mathlib.Omega.{arith}
-use Rattle.execution.proofs.Rounds.{sets-join}
-use Rattle.execution.specs.Putting.{Put}
+use Rattle.frame.proofs.Stores.{sets-join}
+use Rattle.frame.specs.Putting.{Put}
 
 pub put-join : (a b : List ℕ) (at : ℕ) (before middle after : List ℕ) (next last : ℕ) → Put a at before middle next → Put b next middle after last
     → Put (a ++ b) at before after last

@@ -1,14 +1,13 @@
 -- The report without a bound on its calls: a line, and the report from the state that the call left.
-use Prim.Native.Nat.{ℕ, zero, suc, _-_, _≤_, _<_}
-use lib.ListN.{length, length-drop}
-use mathlib.Core.Bool.{true, false}
+use Prim.Native.Nat.{ℕ, zero, suc, _<_}
+use borrow.Author.Tests.{not-false}
+use mathlib.Core.Bool.{true, false, not}
 use mathlib.Core.List.{List, [], _∷_, _++_}
-use mathlib.Core.Logic.{_⊎_, inl, inr, ⊎-elim}
-use mathlib.Core.Path.{_≡_, refl, ap, _∙_}
+use mathlib.Core.Path.{_≡_, refl, ap, sym, _∙_}
 use native.Mathlib.Omega.{arith}
-use Rattle.bench.proofs.Answering.{framed}
-use Rattle.bench.proofs.Steps.{step-cases}
-use Rattle.bench.specs.Machine.{State, call, Step, numberOf, unchanged, dropped, answered, inputOf, restOf, step}
+use Rattle.bench.proofs.Claimed.{work-falls}
+use Rattle.bench.specs.Claims.{takes}
+use Rattle.bench.specs.Machine.{State, call, Step, numberOf, step, work}
 use Rattle.bench.specs.declared.outcome.Outcome.{Outcome}
 use Rattle.bench.specs.declared.outcome.Outcome.the-variants.{Answered, AtEnd, Incomplete, Dropped, PastEnd, BadImage, ShortOutput, FullTally}
 use Rattle.frame.proofs.Picks.{pick-true, pick-false}
@@ -17,39 +16,27 @@ use Rattle.frame.specs.Bytes.{pick}
 use Rattle.report.specs.Lines.{lineOf, ends}
 use Rattle.report.specs.Report.{stepsBy, steps, stepsFrom, linesOf, reportFrom}
 
-never : true ≡ false → ⊥
-never h = let z : _≡_ {A = ℕ} 0 1 = cc in omega arith
-
--- the report goes on after an answer 0 or 3 alone
-pub goes-on : (o : Outcome) → ends o ≡ false → (numberOf o ≡ 0) ⊎ (numberOf o ≡ 3)
-unfolding ends numberOf
-goes-on Answered h = inl refl
-goes-on Dropped h = inr refl
-goes-on AtEnd h = absurd (never h)
-goes-on Incomplete h = absurd (never h)
-goes-on PastEnd h = absurd (never h)
-goes-on BadImage h = absurd (never h)
-goes-on ShortOutput h = absurd (never h)
-goes-on FullTally h = absurd (never h)
+-- the calls after which the report goes on are those that are answered 0 or 3
+pub ends-is : (x : Step) (o : Outcome) → x .outcome ≡ o → ends o ≡ not (takes x)
+unfolding ends takes numberOf
+ends-is x Answered e = simp e
+ends-is x Dropped e = simp e
+ends-is x AtEnd e = simp e
+ends-is x Incomplete e = simp e
+ends-is x PastEnd e = simp e
+ends-is x BadImage e = simp e
+ends-is x ShortOutput e = simp e
+ends-is x FullTally e = simp e
 
 module _ (input : List ℕ) where
-  -- a call after which the report goes on moves the cursor, and not past the end
-  pub record Moves (s : State) (x : Step) : Type 0 where
-    pub on : s .cursor < x .next .cursor
-    pub within : x .next .cursor ≤ length input
+  -- and they lower the work that is left
+  pub less-left : (s : State) → ends (step (call input) s .outcome) ≡ false → work input (step (call input) s .next) < work input s
+  less-left s more =
+      let x : Step = step (call input) s in
+      work-falls input s (not-false (takes x) (sym (ends-is x (x .outcome) refl) ∙ more))
 
-  pub moves : (s : State) → ends (step (call input) s .outcome) ≡ false → Moves s (step (call input) s)
-  unfolding unchanged dropped answered numberOf restOf inputOf
-  moves s =
-      step-cases (call input) s (λ (x : Step). ends (x .outcome) ≡ false → Moves s x)
-      (λ o m n h. absurd (⊎-elim m n (goes-on o h)))
-      (λ r some h. record { on = omega arith; within = omega (arith, length-drop (s .cursor) input) })
-      (λ r pl a h.
-      let f = framed (call input) s r pl a in
-      record { on = omega (arith, f .over-the-command); within = f .not-past-the-end })
-
-  -- more calls than there are bytes left change nothing
-  enough : (m n : ℕ) (s : State) → length input - s .cursor < m → length input - s .cursor < n → stepsBy m input s ≡ stepsBy n input s
+  -- more calls than there is work left change nothing
+  enough : (m n : ℕ) (s : State) → work input s < m → work input s < n → stepsBy m input s ≡ stepsBy n input s
   unfolding stepsBy
   enough zero n s hm hn = absurd (omega arith)
   enough (suc m) zero s hm hn = absurd (omega arith)
@@ -57,12 +44,12 @@ module _ (input : List ℕ) where
       let x : Step = step (call input) s in
       either (ends (x .outcome)) (λ last. simp (last, pick-true))
       (λ more.
-      let on = moves s more in
+      let less = less-left s more in
       ap (λ (rest : List Step). x ∷ pick (ends (x .outcome)) [] rest)
-      (enough m n (x .next) (omega (arith, on .on, on .within)) (omega (arith, on .on, on .within))))
+      (enough m n (x .next) (omega arith) (omega arith)))
 
-  first : (s : State) → stepsBy (suc (length input - s .cursor)) input s
-      ≡ step (call input) s ∷ pick (ends (step (call input) s .outcome)) [] (stepsBy (length input - s .cursor) input (step (call input) s .next))
+  first : (s : State) → stepsBy (suc (work input s)) input s
+      ≡ step (call input) s ∷ pick (ends (step (call input) s .outcome)) [] (stepsBy (work input s) input (step (call input) s .next))
   unfolding stepsBy
   first s = refl
 
@@ -73,9 +60,9 @@ module _ (input : List ℕ) where
       first s
       ∙ either (ends (x .outcome)) (λ last. simp (last, pick-true))
       (λ more.
-      let on = moves s more in
+      let less = less-left s more in
       ap (λ (rest : List Step). x ∷ pick (ends (x .outcome)) [] rest)
-      (enough (length input - s .cursor) (suc (length input - x .next .cursor)) (x .next) (omega (arith, on .on, on .within)) (omega arith)))
+      (enough (work input s) (suc (work input (x .next))) (x .next) (omega arith) (omega arith)))
 
   pub none-left : (s : State) → stepsFrom input true s ≡ []
   unfolding stepsFrom

@@ -6,7 +6,7 @@ use mathlib.Core.Bool.{Bool, true, false}
 use mathlib.Core.List.{List, [], _∷_, _++_, append-assoc, append-nil}
 use mathlib.Core.Path.{_≡_, refl, ap, sym, _∙_}
 use native.Mathlib.Omega.{arith}
-use Rattle.bench.specs.Machine.{State, call, Step, step, after}
+use Rattle.bench.specs.Machine.{State, call, Step, step, work, after}
 use Rattle.frame.proofs.Picks.{by-test, pick-false}
 use Rattle.frame.proofs.Tests.{either}
 use Rattle.report.proofs.Fitting.{over-is, no-room, piece-over, no-piece, splits, same-last, some}
@@ -78,7 +78,7 @@ pieces-are-the-report commands image rooms short ended =
     )
 
 pub enough-pieces : EnoughPieces
-unfolding fresh stepsFrom steps
+unfolding fresh stepsFrom steps work
 enough-pieces commands image room h =
     enough-by commands (suc (length commands)) room false (fresh image) h
     (rw pick-false (omega (arith, steps-few (suc (length commands - 0)) commands (fresh image))))

@@ -10,29 +10,17 @@ use mathlib.Core.Path.{_≡_, refl, ap, sym, _∙_}
 use native.Mathlib.Omega.{arith}
 use Rattle.bench.proofs.Claimed.{bound}
 use Rattle.bench.specs.Claims.{answerOf, count, takes}
-use Rattle.bench.specs.Machine.{State, call, Step, numberOf, unchanged, inputOf, step, run, after}
+use Rattle.bench.specs.Machine.{State, call, Step, numberOf, unchanged, decide, carriedOut, inputOf, step, run, after}
 use Rattle.bench.specs.declared.outcome.Outcome.{Outcome}
 use Rattle.bench.specs.declared.outcome.Outcome.the-variants.{Answered, AtEnd, Incomplete, Dropped, PastEnd, BadImage, ShortOutput, FullTally}
 use Rattle.frame.proofs.Picks.{by-test, pick-true, pick-false}
 use Rattle.frame.proofs.Tests.{either, or-neither}
 use Rattle.report.proofs.LinesOfCalls.{count-lines, refused-lines}
-use Rattle.report.proofs.Reports.{report-over, report-more}
+use Rattle.report.proofs.Reports.{ends-is, report-over, report-more}
 use Rattle.report.specs.Claims.{TooLongReport, LineByLine, GoodImageReport, BadImageReport}
 use Rattle.report.specs.Lines.{refusedLine, lineOf, ends}
 use Rattle.report.specs.Report.{linesOf, reportFrom, tooLong, fresh, reportOf}
-use Rattle.tag.specs.Image.{good}
-
--- the calls that do not end the report are those that take bytes
-ends-is : (x : Step) (o : Outcome) → x .outcome ≡ o → ends o ≡ not (takes x)
-unfolding ends takes numberOf
-ends-is x Answered e = simp e
-ends-is x Dropped e = simp e
-ends-is x AtEnd e = simp e
-ends-is x Incomplete e = simp e
-ends-is x PastEnd e = simp e
-ends-is x BadImage e = simp e
-ends-is x ShortOutput e = simp e
-ends-is x FullTally e = simp e
+use Rattle.image.specs.Image.{good}
 
 pub line-by-line : LineByLine
 line-by-line input s =
@@ -117,7 +105,7 @@ good-image-report commands image short h =
     )
 
 bad-step : (commands image : List ℕ) → good image ≡ false → step (call commands) (fresh image) ≡ unchanged (fresh image) BadImage
-unfolding step inputOf fresh
+unfolding step decide carriedOut inputOf fresh
 bad-step commands image h = simp (le-ltb (length commands) 0 (omega arith), h, pick-true, pick-false)
 
 bad-answer : (commands image : List ℕ) → good image ≡ false → answerOf (call commands) (fresh image) ≡ 11

@@ -19,7 +19,7 @@ use Rattle.report.specs.Pieces.{pieceOf, leftBy, overBy, pieces}
 use Rattle.report.specs.Report.{linesOf, reportFrom, lastState, tooLong, fresh, reportOf, filesOf, noticeOf, printed}
 use Rattle.report.specs.declared.limits.Files.the-variants.{Fit}
 use Rattle.tag.specs.Answers.{answer}
-use Rattle.tag.specs.Image.{good}
+use Rattle.image.specs.Image.{good}
 
 -- ---- the report that document 01 prints
 
@@ -98,13 +98,13 @@ FrameLines =
 
 abbrev pub DropLines : Type 0
 DropLines =
-    (input : List ℕ) (s : State) → answerOf (call input) s ≡ 3 → lineOf input s (step (call input) s) ≡ dropLine (byte input (s .cursor))
+    (input : List ℕ) (s : State) → answerOf (call input) s ≡ 3 → lineOf input s (step (call input) s) ≡ dropLine (byte input (s .reader .cursor))
 
 -- "then the counts; LEFT is what remains at answer 1 or 2"
 abbrev pub CountLines : Type 0
 CountLines =
     (input : List ℕ) (s : State) → (answerOf (call input) s ≡ 1) ⊎ (answerOf (call input) s ≡ 2)
-    → lineOf input s (step (call input) s) ≡ countsLine (s .tally) (length input - s .cursor)
+    → lineOf input s (step (call input) s) ≡ countsLine (s .reader .tally) (length input - s .reader .cursor)
 
 -- "A call answered 10 to 13 gives only `REFUSED` and the number."
 abbrev pub RefusedLines : Type 0
@@ -124,8 +124,8 @@ LineByLine =
 abbrev pub made : ℕ → List ℕ → List ℕ → List Step
 made k commands image = run (replicate k (call commands)) (fresh image)
 
-abbrev pub left : ℕ → List ℕ → List ℕ → State
-left k commands image = after (replicate k (call commands)) (fresh image)
+abbrev pub stateBy : ℕ → List ℕ → List ℕ → State
+stateBy k commands image = after (replicate k (call commands)) (fresh image)
 
 -- On a good image the report is the lines of calls answered 0 or 3, in order and at most one for each byte, then the counts.
 abbrev pub GoodImageReport : Type 0
@@ -138,7 +138,7 @@ GoodImageReport =
     × (count takes (made k commands image) ≡ k)
     × (reportOf commands image
     ≡ linesOf commands (fresh image) (made k commands image)
-    ++ countsLine (left k commands image .tally) (length commands - left k commands image .cursor))
+    ++ countsLine (stateBy k commands image .reader .tally) (length commands - stateBy k commands image .reader .cursor))
 
 -- "gives only `REFUSED` and the number": a refusal is the whole report, and its number is 11
 abbrev pub BadImageReport : Type 0
@@ -152,8 +152,8 @@ isFrame x = eqb (numberOf (x .outcome)) 0
 abbrev pub CountsAreLines : Type 0
 CountsAreLines =
     (k : ℕ) (commands image : List ℕ)
-    → (left k commands image .tally .good + left k commands image .tally .error ≡ count isFrame (made k commands image))
-    × (left k commands image .tally .dropped ≡ count isDropped (made k commands image))
+    → (stateBy k commands image .reader .tally .good + stateBy k commands image .reader .tally .error ≡ count isFrame (made k commands image))
+    × (stateBy k commands image .reader .tally .dropped ≡ count isDropped (made k commands image))
 
 -- What was dropped, what the commands took ("A frame has 7 + PL bytes.") and LEFT are together the length of the input.
 unfoldable pub tookBy : Outcome → ℕ → ℕ
@@ -168,12 +168,12 @@ tookBy FullTally pl = 0
 
 unfoldable pub took : List ℕ → State → List Step → ℕ
 took input s [] = 0
-took input s (x ∷ rest) = tookBy (x .outcome) (number (drop (s .cursor) input) 3) + took input (x .next) rest
+took input s (x ∷ rest) = tookBy (x .outcome) (number (drop (s .reader .cursor) input) 3) + took input (x .next) rest
 
 abbrev pub BytesAddUp : Type 0
 BytesAddUp =
     (k : ℕ) (commands image : List ℕ)
-    → took commands (fresh image) (made k commands image) + (length commands - left k commands image .cursor) ≡ length commands
+    → took commands (fresh image) (made k commands image) + (length commands - stateBy k commands image .reader .cursor) ≡ length commands
 
 -- ---- the report in pieces
 

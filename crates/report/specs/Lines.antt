@@ -6,7 +6,7 @@ use lib.ListN.{length, take}
 use Rattle.bench.specs.Machine.{State, Step, numberOf}
 use Rattle.bench.specs.declared.outcome.Outcome.{Outcome}
 use Rattle.bench.specs.declared.outcome.Outcome.the-variants.{Answered, AtEnd, Incomplete, Dropped, PastEnd, BadImage, ShortOutput, FullTally}
-use Rattle.bench.specs.declared.tally.Tally.{Tally}
+use Rattle.reader.specs.declared.tally.Tally.{Tally}
 use Rattle.frame.specs.Bytes.{byte}
 use Rattle.report.specs.Digits.{hexByte, decimal}
 
@@ -95,7 +95,7 @@ lineFor FullTally frame b t left = refusedLine (numberOf FullTally)
 -- the line of a step from the state s: the frame is that at the start of the output, the byte dropped that at the cursor
 unfoldable pub lineOf : List ℕ → State → Step → List ℕ
 lineOf input s x =
-    lineFor (x .outcome) (take (x .length) (x .next .output)) (byte input (s .cursor)) (x .next .tally) (length input - x .next .cursor)
+    lineFor (x .outcome) (take (x .length) (x .next .output)) (byte input (s .reader .cursor)) (x .next .reader .tally) (length input - x .next .reader .cursor)
 
 -- the report goes on after an answer 0 or 3, and ends with any other line
 unfoldable pub ends : Outcome → Bool

@@ -1,11 +1,11 @@
 -- The report of document 01: the lines of the calls on one input, from any state of the machine, up to the call that ends it.
-use Prim.Native.Nat.{ℕ, zero, suc, _-_}
+use Prim.Native.Nat.{ℕ, zero, suc}
 use mathlib.Core.Bool.{Bool, false, _||_}
 use mathlib.Core.List.{List, [], _∷_, _++_}
 use lib.Dec.{ltb}
 use lib.ListN.{length, replicate}
-use Rattle.bench.specs.Counts.{freshTally}
-use Rattle.bench.specs.Machine.{State, call, Step, step, after}
+use Rattle.reader.specs.Readers.{freshReader}
+use Rattle.bench.specs.Machine.{State, stateOf, call, Step, step, work, after}
 use Rattle.frame.specs.Bytes.{pick}
 use Rattle.report.specs.Lines.{tooLongLine, unreadableLine, lineOf, ends}
 use Rattle.report.specs.declared.limits.Files.{Files}
@@ -16,9 +16,9 @@ unfoldable pub stepsBy : ℕ → List ℕ → State → List Step
 stepsBy zero input s = []
 stepsBy (suc most) input s = step (call input) s ∷ pick (ends (step (call input) s .outcome)) [] (stepsBy most input (step (call input) s .next))
 
--- A call that takes bytes moves the cursor on, so that one call for each byte left, and one more, are enough.
+-- Every call after which the report goes on lowers the work that is left, so that as many calls, and one more, are enough.
 unfoldable pub steps : List ℕ → State → List Step
-steps input s = stepsBy (suc (length input - s .cursor)) input s
+steps input s = stepsBy (suc (work input s)) input s
 
 -- the line of each step, from the state that the one before left
 unfoldable pub linesOf : List ℕ → State → List Step → List ℕ
@@ -42,7 +42,7 @@ tooLong commands image = ltb 32768 commands || ltb 2048 image
 
 -- where the program begins: an output of 136 bytes, cursor 0 and a fresh tally
 unfoldable pub fresh : List ℕ → State
-fresh image = record { image = image; output = replicate 136 0; cursor = 0; tally = freshTally }
+fresh image = stateOf image (replicate 136 0) freshReader
 
 unfoldable pub reportOf : List ℕ → List ℕ → List ℕ
 reportOf commands image = pick (tooLong (length commands) (length image)) tooLongLine (reportFrom commands false (fresh image))

@@ -5,11 +5,11 @@ use mathlib.Core.List.{List}
 use mathlib.Core.Path.{_≡_}
 use lib.Dec.{ltb}
 use lib.ListN.{length, take}
-use Rattle.bench.specs.Counts.{freshTally}
+use Rattle.reader.specs.Readers.{freshReader}
 use Rattle.bench.specs.Machine.{State, stateOf, call, step}
 use Rattle.bench.specs.declared.calling.Called.{Called}
 use Rattle.bench.specs.declared.outcome.Outcome.the-variants.{Answered}
-use Rattle.execution.specs.Putting.{Put}
+use Rattle.frame.specs.Putting.{Put}
 use Rattle.frame.specs.Bytes.{pick, byte}
 use Rattle.frame.specs.Frames.{written}
 use Rattle.report.specs.Lines.{longestLine, lineFor, lineOf, ends}
@@ -40,16 +40,16 @@ pub record Printable (r : Called) (output buffer : List ℕ) (at : ℕ) : Type 0
 
 abbrev pub Printed : List ℕ → ℕ → Called → List ℕ → ℕ → List ℕ → List ℕ → ℕ → Type 0
 Printed input cursor r output at before after next =
-    Line (lineFor (r .outcome) (take (r .length) output) (byte input cursor) (r .tally) (length input - r .cursor)) at before after next
+    Line (lineFor (r .outcome) (take (r .length) output) (byte input cursor) (r .reader .tally) (length input - r .reader .cursor)) at before after next
 
 -- ---- a piece of the report
 
 -- the state that a report goes on from
-abbrev pub standing : List ℕ → List ℕ → Progress → State
-standing image output p = stateOf image output (p .cursor) (p .tally)
+abbrev pub stateAt : List ℕ → List ℕ → Progress → State
+stateAt image output p = stateOf image output (p .reader)
 
 abbrev pub started : Progress
-started = record { cursor = 0; tally = freshTally; over = false }
+started = record { reader = freshReader; over = false }
 
 -- one call is made, its line stands at `at`, and the state is the one that the call leaves
 pub record OneLine (input : List ℕ) (s : State) (at : ℕ) (before after : List ℕ) (next : State) (r : Written) : Type 0 where

@@ -3,7 +3,7 @@ ghost use mathlib.Core.Path.{_≡_};
 ghost use Prim.Native.Nat.{_+_, _≤_, _<_};
 ghost use mathlib.Core.List.{_∷_, [], _++_};
 ghost use lib.ListN.{length};
-ghost use Rattle.execution.specs.Putting.{Put};
+ghost use Rattle.frame.specs.Putting.{Put};
 ghost use Rattle.report.specs.Digits.{hexDigit, hexByte, width as widthOf, decimal};
 
 fn hex_digit(n: u8) -> u8

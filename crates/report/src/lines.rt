@@ -1,12 +1,12 @@
 // The lines of the report, put into a lent buffer. Each function hands back the place behind what it put.
 use crate::digits::put_decimal;
 use crate::digits::put_hex;
-use bench::tally::Tally;
 use frame::copying::copy;
+use reader::tally::Tally;
 ghost use mathlib.Core.Path.{_≡_};
 ghost use Prim.Native.Nat.{_+_, _≤_, _<_};
 ghost use lib.ListN.{length, drop};
-ghost use Rattle.execution.specs.Putting.{Put};
+ghost use Rattle.frame.specs.Putting.{Put};
 ghost use Rattle.report.specs.Lines.{dropLine, separator, frameLine, countPart, tallyPart, countsLine, refusedLine, longestLine};
 ghost use Rattle.report.specs.Writing.{Line};
 

@@ -6,18 +6,17 @@ use crate::lines::put_refused;
 use bench::calling::Called;
 use bench::calling::call;
 use bench::outcome::Outcome;
-use bench::tally::Tally;
 use frame::bytes::byte_at;
+use reader::state::Reader;
 ghost use mathlib.Core.Path.{_≡_};
 ghost use Prim.Native.Nat.{_+_, _-_, _≤_};
 ghost use lib.ListN.{length};
 ghost use Rattle.report.specs.Lines.{longestLine, ends};
-ghost use Rattle.report.specs.Writing.{started, Printable, Printed, standing, OneLine, Wrote};
+ghost use Rattle.report.specs.Writing.{started, Printable, Printed, stateAt, OneLine, Wrote};
 
 // Where a report stands between two pieces, beside the image and the output.
 pub struct Progress {
-    pub cursor: usize,
-    pub tally: Tally,
+    pub reader: Reader,
     pub over: bool,
 }
 
@@ -26,8 +25,7 @@ impl Progress {
         ensures { λ r. ⌜ r ≡ started ⌝ }
     {
         Self {
-            cursor: 0,
-            tally: Tally::fresh(),
+            reader: Reader::fresh(),
             over: false,
         }
     }
@@ -88,12 +86,13 @@ fn put_line(
 {
     let outcome = called.outcome;
     let length = called.length;
-    let left = remaining(input.len(), called.cursor);
+    let reader = called.reader;
+    let left = remaining(input.len(), reader.cursor);
     match outcome {
         Outcome::Answered => put_frame(buffer, at, &output[..length]),
         Outcome::Dropped => put_drop(buffer, at, byte_at(input, cursor)),
-        Outcome::AtEnd => put_counts(buffer, at, called.tally, left),
-        Outcome::Incomplete => put_counts(buffer, at, called.tally, left),
+        Outcome::AtEnd => put_counts(buffer, at, reader.tally, left),
+        Outcome::Incomplete => put_counts(buffer, at, reader.tally, left),
         Outcome::PastEnd => put_refused(buffer, at, 10),
         Outcome::BadImage => put_refused(buffer, at, 11),
         Outcome::ShortOutput => put_refused(buffer, at, 12),
@@ -112,22 +111,20 @@ fn write_line(
 ) -> Written
     requires { ⌜ at + longestLine ≤ length (now buffer) ⌝ }
     ensures { λ r. ⌜
-        OneLine (now (input .entry)) (standing (now (image .entry)) (now (output .entry)) progress) at (now (buffer .entry)) (now (buffer .exit))
-        (standing (now (image .exit)) (now (output .exit)) (r .progress)) r
+        OneLine (now (input .entry)) (stateAt (now (image .entry)) (now (output .entry)) progress) at (now (buffer .entry)) (now (buffer .exit))
+        (stateAt (now (image .exit)) (now (output .exit)) (r .progress)) r
         ⌝ }
 {
-    let cursor = progress.cursor;
-    let tally = progress.tally;
-    let called = call(input, image, output, cursor, tally);
-    let used = put_line(input, cursor, output, called, buffer, at);
-    let next = called.tally;
+    let reader = progress.reader;
+    let called = call(input, image, output, reader);
+    let used = put_line(input, reader.cursor, output, called, buffer, at);
+    let next = called.reader;
     let outcome = called.outcome;
     Written {
         room: Room::Enough,
         used,
         progress: Progress {
-            cursor: called.cursor,
-            tally: next,
+            reader: next,
             over: is_last(outcome),
         },
     }
@@ -143,8 +140,8 @@ pub fn write(
     progress: Progress,
 ) -> Written
     ensures { λ r. ⌜
-        Wrote (now (input .entry)) (now (buffer .entry)) (now (buffer .exit)) (standing (now (image .entry)) (now (output .entry)) progress) (progress .over)
-        (standing (now (image .exit)) (now (output .exit)) (r .progress)) r
+        Wrote (now (input .entry)) (now (buffer .entry)) (now (buffer .exit)) (stateAt (now (image .entry)) (now (output .entry)) progress) (progress .over)
+        (stateAt (now (image .exit)) (now (output .exit)) (r .progress)) r
         ⌝ }
 {
     let mut next = progress;

@@ -8,16 +8,16 @@ use mathlib.Core.Path.{_≡_}
 use native.Mathlib.Omega.{arith}
 use Rattle.crc.specs.Crc.{tagCrc}
 use Rattle.frame.proofs.FrameBytes.{length-frame, code-frame, length-part}
-use Rattle.frame.proofs.Numbers.{length-two-bytes}
+use Rattle.frame.proofs.Numbers.{length-bytes-of}
 use Rattle.frame.specs.Bytes.{byte, part, twoBytes}
 use Rattle.frame.specs.Frames.{frameOf, written}
 use Rattle.tag.proofs.Cases.{placeOf, act-cases}
-use Rattle.tag.proofs.GoodImages.{Good, good-facts}
+use Rattle.image.proofs.GoodImages.{Good, good-facts}
 use Rattle.tag.specs.Answers.{pcAndEpc, tail, answer, isError}
 use Rattle.tag.specs.Commands.{countIn, actOf}
-use Rattle.tag.specs.Image.{good, view, rssi, wordAt, epcLength}
+use Rattle.image.specs.Image.{good, view, rssi, wordAt, epcLength}
 use Rattle.tag.specs.declared.commands.Act.{Act}
-use Rattle.tag.specs.declared.commands.Act.the-variants.{PlainError, TagError, Notify, Give, Store, SetLocks, SetKilled}
+use Rattle.tag.specs.declared.commands.Act.the-variants.{Notify, Give}
 
 module _ (image : List ℕ) (g : Good (view image)) where
   pc-and-epc-most : length (pcAndEpc image) ≤ 64
@@ -39,7 +39,7 @@ module _ (image : List ℕ) (g : Good (view image)) where
         arith,
         length-frame 0x02 0x22 (rssi image ∷ (pcAndEpc image ++ crc)),
         length-append (pcAndEpc image) crc,
-        length-two-bytes (tagCrc (pcAndEpc image)),
+        length-bytes-of 2 (tagCrc (pcAndEpc image)),
         pc-and-epc-most,
       )
 
@@ -70,12 +70,16 @@ answer-most image p code h =
     (λ n equal. done-most image g 0x65)
 
 -- "An error answer is one with code FF."
-pub error-code : (image : List ℕ) (act : Act) (output : List ℕ) → eqb (byte (written (answer image act) output) 2) 0xFF ≡ isError act
+pub error-code : (image p : List ℕ) (code : ℕ) (output : List ℕ)
+    → eqb (byte (written (answer image (actOf image code p)) output) 2) 0xFF ≡ isError (actOf image code p)
 unfolding answer isError
-error-code image (PlainError e) output = rw (code-frame 0x01 0xFF (e ∷ []) output)
-error-code image (TagError e) output = rw (code-frame 0x01 0xFF (e ∷ tail image) output)
-error-code image Notify output = rw (code-frame 0x02 0x22 (rssi image ∷ (pcAndEpc image ++ twoBytes (tagCrc (pcAndEpc image)))) output)
-error-code image (Give at n) output = rw (code-frame 0x01 0x39 (tail image ++ part image at n) output)
-error-code image (Store at) output = rw (code-frame 0x01 0x49 (tail image ++ (0x00 ∷ [])) output)
-error-code image (SetLocks bits) output = rw (code-frame 0x01 0x82 (tail image ++ (0x00 ∷ [])) output)
-error-code image SetKilled output = rw (code-frame 0x01 0x65 (tail image ++ (0x00 ∷ [])) output)
+error-code image p code output =
+    act-cases (λ (act : Act). eqb (byte (written (answer image act) output) 2) 0xFF ≡ isError act)
+    (λ e. rw (code-frame 0x01 0xFF (e ∷ []) output))
+    (λ e. rw (code-frame 0x01 0xFF (e ∷ tail image) output))
+    image p code
+    (λ n. rw (code-frame 0x02 0x22 (rssi image ∷ (pcAndEpc image ++ twoBytes (tagCrc (pcAndEpc image)))) output))
+    (λ n reads. rw (code-frame 0x01 0x39 (tail image ++ part image (placeOf image p) (2 * countIn p)) output))
+    (λ n writes. rw (code-frame 0x01 0x49 (tail image ++ (0x00 ∷ [])) output))
+    (λ n locks. rw (code-frame 0x01 0x82 (tail image ++ (0x00 ∷ [])) output))
+    (λ n kills. rw (code-frame 0x01 0x65 (tail image ++ (0x00 ∷ [])) output))

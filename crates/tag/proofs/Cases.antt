@@ -8,14 +8,14 @@ use mathlib.Core.List.{List}
 use mathlib.Core.Path.{_≡_, refl}
 use Rattle.frame.proofs.Picks.{by-test}
 use Rattle.frame.proofs.Tests.{and-left, and-right}
-use Rattle.tag.specs.Commands.{passwordIn, bankIn, pointerIn, countIn, dataIn, ldIn, aimRight, parseInventory, parseRead, parseWrite, parseLock, parseKill, parse, gone, outside, inventoryVerdict, readVerdict, lengthBroken, writeVerdict, lockVerdict, killActs, killVerdict, verdict, actOf}
-use Rattle.tag.specs.Image.{view, bankOf, wordAt}
+use Rattle.tag.specs.Commands.{passwordIn, bankIn, pointerIn, countIn, dataIn, ldIn, aimRight, parseInventory, parseRead, parseWrite, parseLock, parseKill, parse, gone, ifPresent, admitted, outside, inventoryVerdict, readAct, readVerdict, lengthBroken, writeAct, writeVerdict, lockAct, lockVerdict, killAct, killVerdict, verdict, actOf}
+use Rattle.image.specs.Image.{view, bankOf, wordAt}
 use Rattle.tag.specs.Locks.{pairs, bitsOf, standing, isSecured, isWrong, killStanding, mayRead, mayWrite, newPairs, breaksPermalock}
 use Rattle.tag.specs.declared.commands.Act.{Act}
-use Rattle.tag.specs.declared.commands.Act.the-variants.{PlainError, TagError, Notify, Give, Store, SetLocks, SetKilled}
-use Rattle.tag.specs.declared.commands.Command.{Command}
-use Rattle.tag.specs.declared.commands.Command.the-variants.{Malformed, Inventory, Read, Write, Lock, Kill}
-use Rattle.tag.specs.declared.image.View.{View}
+use Rattle.tag.specs.declared.commands.Act.the-variants.{PlainError, TagError, Notify, Give, Store, Set}
+use Rattle.tag.specs.declared.commands.Parsed.{Parsed}
+use Rattle.tag.specs.declared.commands.Parsed.the-variants.{Malformed, Inventory, Read, Write, Lock, Kill}
+use Rattle.image.specs.declared.header.View.{View}
 use Rattle.tag.specs.declared.locks.KillStanding.{KillStanding}
 use Rattle.tag.specs.declared.locks.KillStanding.the-variants.{NoneStored, Equal, Different}
 use Rattle.tag.specs.declared.locks.Standing.{Standing}
@@ -70,7 +70,7 @@ aimed v p aim inside =
     }
 
 -- every parsed command, by cases
-module _ (Q : Command → Type 0) (p : List ℕ) (malformed : Q Malformed) where
+module _ (Q : Parsed → Type 0) (p : List ℕ) (malformed : Q Malformed) where
   pub parse-cases : (code : ℕ)
       → (code ≡ 0x22 → Q Inventory)
       → (code ≡ 0x39 → length p ≡ 9 → aimRight p ≡ true → Q (Read (passwordIn p) (bankIn p) (pointerIn p) (countIn p)))
@@ -105,17 +105,19 @@ module _ (Q : Command → Type 0) (p : List ℕ) (malformed : Q Malformed) where
       malformed
 
 module _ (P : Act → Type 0) (plain : (e : ℕ) → P (PlainError e)) (tagged : (e : ℕ) → P (TagError e)) where
-  inventory-cases : (v : View) → P Notify → P (inventoryVerdict v)
-  unfolding inventoryVerdict
-  inventory-cases v notify = by-test P (gone v) (λ h. plain 0x15) (λ h. notify)
+  present-cases : (v : View) (e : ℕ) (act : Act) → P act → P (ifPresent v e act)
+  unfolding ifPresent
+  present-cases v e act own = by-test P (gone v) (λ h. plain e) (λ h. own)
+
+  admitted-cases : (v : View) (s : Standing) (e : ℕ) (act : Act) → P act → P (admitted v s e act)
+  unfolding admitted
+  admitted-cases v s e act own = present-cases v e _ (by-test P (isWrong s) (λ h. tagged 0x16) (λ h. own))
 
   read-cases : (v : View) (s : Standing) (bank pointer count : ℕ)
       → (outside v bank pointer count ≡ false → mayRead v s bank pointer count ≡ true → P (Give (wordAt (bankOf v bank) pointer) (2 * count)))
-      → P (readVerdict v s bank pointer count)
-  unfolding readVerdict
+      → P (readAct v s bank pointer count)
+  unfolding readAct
   read-cases v s bank pointer count give =
-      by-test P (gone v) (λ h. plain 0x09) λ h.
-      by-test P (isWrong s) (λ h. tagged 0x16) λ h.
       by-test P (outside v bank pointer count) (λ h. tagged 0xA3) λ inside.
       by-test P (not (mayRead v s bank pointer count)) (λ h. tagged 0xA4) λ may.
       give inside (not-false _ may)
@@ -123,11 +125,9 @@ module _ (P : Act → Type 0) (plain : (e : ℕ) → P (PlainError e)) (tagged :
   write-cases : (v : View) (s : Standing) (bank pointer count : ℕ) (words : List ℕ)
       → (outside v bank pointer count ≡ false → mayWrite v s bank pointer count ≡ true → lengthBroken v bank pointer count words ≡ false
       → P (Store (wordAt (bankOf v bank) pointer)))
-      → P (writeVerdict v s bank pointer count words)
-  unfolding writeVerdict
+      → P (writeAct v s bank pointer count words)
+  unfolding writeAct
   write-cases v s bank pointer count words store =
-      by-test P (gone v) (λ h. plain 0x10) λ h.
-      by-test P (isWrong s) (λ h. tagged 0x16) λ h.
       by-test P (outside v bank pointer count) (λ h. tagged 0xB3) λ inside.
       by-test P (not (mayWrite v s bank pointer count)) (λ h. tagged 0xB4) λ may.
       by-test P (lengthBroken v bank pointer count words) (λ h. tagged 0xB3) λ kept.
@@ -136,45 +136,45 @@ module _ (P : Act → Type 0) (plain : (e : ℕ) → P (PlainError e)) (tagged :
   lock-cases : (v : View) (s : Standing) (mask action : ℕ)
       → (isSecured s ≡ true
       → breaksPermalock (pairs (v .locks)) (newPairs (pairs mask) (pairs action) (pairs (v .locks))) ≡ false
-      → P (SetLocks (bitsOf (newPairs (pairs mask) (pairs action) (pairs (v .locks))))))
-      → P (lockVerdict v s mask action)
-  unfolding lockVerdict
+      → P (Set 0x82 20 2 (bitsOf (newPairs (pairs mask) (pairs action) (pairs (v .locks))))))
+      → P (lockAct v s mask action)
+  unfolding lockAct
   lock-cases v s mask action locks =
-      by-test P (gone v) (λ h. plain 0x13) λ h.
-      by-test P (isWrong s) (λ h. tagged 0x16) λ h.
       by-test P (not (isSecured s)) (λ h. plain 0x13) λ secured.
       by-test P (not (eqb (pairs mask .user) 0) && eqb (v .user .words) 0) (λ h. tagged 0xC3) λ h.
       by-test P (breaksPermalock (pairs (v .locks)) (newPairs (pairs mask) (pairs action) (pairs (v .locks)))) (λ h. tagged 0xC4) λ kept.
       locks (not-false _ secured) kept
 
-  kill-acts : (k : KillStanding) → (k ≡ Equal → P SetKilled) → P (killActs k)
-  unfolding killActs
-  kill-acts NoneStored killed = tagged 0xD0
-  kill-acts Equal killed = killed refl
-  kill-acts Different killed = plain 0x12
-
-  kill-cases : (v : View) (k : KillStanding) → (k ≡ Equal → P SetKilled) → P (killVerdict v k)
-  unfolding killVerdict
-  kill-cases v k killed = by-test P (gone v) (λ h. plain 0x12) (λ h. kill-acts k killed)
+  kill-cases : (k : KillStanding) → (k ≡ Equal → P (Set 0x65 22 1 1)) → P (killAct k)
+  unfolding killAct
+  kill-cases NoneStored killed = tagged 0xD0
+  kill-cases Equal killed = killed refl
+  kill-cases Different killed = plain 0x12
 
   pub act-cases : (image p : List ℕ) (code : ℕ)
       → (code ≡ 0x22 → P Notify)
       → (code ≡ 0x39 → Reads image p → P (Give (placeOf image p) (2 * countIn p)))
       → (code ≡ 0x49 → Writes image p → P (Store (placeOf image p)))
-      → (code ≡ 0x82 → Locks image p → P (SetLocks (newBits image p)))
-      → (code ≡ 0x65 → Kills image p → P SetKilled)
+      → (code ≡ 0x82 → Locks image p → P (Set 0x82 20 2 (newBits image p)))
+      → (code ≡ 0x65 → Kills image p → P (Set 0x65 22 1 1))
       → P (actOf image code p)
-  unfolding actOf verdict
+  unfolding actOf verdict inventoryVerdict readVerdict writeVerdict lockVerdict killVerdict
   act-cases image p code notify give store locks killed =
       let v : View = view image in
       let s : Standing = standing image (passwordIn p) in
       parse-cases (λ m. P (verdict image p m)) p (plain 0x17) code
-      (λ h. inventory-cases v (notify h))
+      (λ h. present-cases v 0x15 _ (notify h))
       (λ h fields aim.
-      read-cases v s (bankIn p) (pointerIn p) (countIn p) λ inside may.
-      give h record { fields = fields; aim = aimed v p aim inside; may = may })
+      admitted-cases v s 0x09 _
+      (read-cases v s (bankIn p) (pointerIn p) (countIn p) λ inside may.
+      give h record { fields = fields; aim = aimed v p aim inside; may = may }))
       (λ h fields aim.
-      write-cases v s (bankIn p) (pointerIn p) (countIn p) (dataIn p) λ inside may kept.
-      store h record { fields = fields; aim = aimed v p aim inside; may = may; kept = kept })
-      (λ h fields. lock-cases v s (ldIn p / 1024) (ldIn p % 1024) λ secured kept. locks h record { fields = fields; secured = secured; kept = kept })
-      (λ h fields. kill-cases v (killStanding image (passwordIn p)) λ equal. killed h record { fields = fields; equal = equal })
+      admitted-cases v s 0x10 _
+      (write-cases v s (bankIn p) (pointerIn p) (countIn p) (dataIn p) λ inside may kept.
+      store h record { fields = fields; aim = aimed v p aim inside; may = may; kept = kept }))
+      (λ h fields.
+      admitted-cases v s 0x13 _
+      (lock-cases v s (ldIn p / 1024) (ldIn p % 1024) λ secured kept. locks h record { fields = fields; secured = secured; kept = kept }))
+      (λ h fields.
+      present-cases v 0x12 _
+      (kill-cases (killStanding image (passwordIn p)) λ equal. killed h record { fields = fields; equal = equal }))

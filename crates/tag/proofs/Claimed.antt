@@ -2,14 +2,10 @@
 use Prim.Native.Nat.{ℕ}
 use mathlib.Core.List.{List}
 use Rattle.tag.proofs.CommandRows as CommandRows
-use Rattle.tag.proofs.ImageTable as ImageTable
 use Rattle.tag.proofs.LockWords as LockWords
-use Rattle.tag.specs.Claims.{GoodImages, OtherCodes, InventoryRows, ReadRows, WriteRows, LockRows, KillRows, PairBits, LockTable, Regions, RangeBeforeLock, Standings, NewPair}
-use Rattle.tag.specs.declared.image.View.{View}
+use Rattle.tag.specs.Claims.{OtherCodes, InventoryRows, ReadRows, WriteRows, LockRows, KillRows, PairBits, LockTable, Regions, RangeBeforeLock, Standings, NewPair}
+use Rattle.image.specs.declared.header.View.{View}
 use Rattle.tag.specs.declared.locks.Standing.{Standing}
-
-pub good-images : GoodImages
-good-images = ImageTable.good-images
 
 pub other-codes : OtherCodes
 other-codes = CommandRows.other-codes

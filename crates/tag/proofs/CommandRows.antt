@@ -10,7 +10,7 @@ use native.Mathlib.Omega.{arith}
 use Rattle.crc.specs.Crc.{tagCrc}
 use Rattle.frame.proofs.Picks.{pick-true, pick-false, pick-or, pick-not, pick-both, pick-all-three}
 use Rattle.frame.proofs.Tests.{and-left, not-leb}
-use Rattle.frame.specs.Bytes.{pick, part, twoBytes, byte, number, double}
+use Rattle.frame.specs.Bytes.{pick, part, bytesOf, byte, number, double}
 use Rattle.frame.specs.Frames.{frameOf, checked, checkOf}
 use Rattle.tag.proofs.RawLocks.{kill-pair, access-pair, epc-pair, tid-pair, user-pair, broken, top-four, some-bit, two-stored}
 use Rattle.tag.proofs.RawTests.{wrong-is, secured-is, words-are, offset-is, unreadable, unwritable, short-too, broken-is}
@@ -18,14 +18,14 @@ use Rattle.tag.proofs.Rows.{plain-is, plain-row, tag-row, last-row}
 use Rattle.tag.specs.Answers.{pcAndEpc, tail, answer, changed}
 use Rattle.tag.specs.Claims as Claims
 use Rattle.tag.specs.Claims.{InventoryRows, ReadRows, WriteRows, LockRows, KillRows, OtherCodes, outcome, framed, stored, offsetOf, killStored, accessStored}
-use Rattle.tag.specs.Commands.{passwordIn, bankIn, pointerIn, countIn, dataIn, ldIn, aimRight, parseInventory, parseRead, parseWrite, parseLock, parseKill, parse, gone, outside, inventoryVerdict, readVerdict, writeVerdict, lockVerdict, killActs, killVerdict, verdict, actOf}
-use Rattle.tag.specs.Image.{bankAt, view, rssi, bankOf, wordAt, epcLength, killPassword, accessPassword}
+use Rattle.tag.specs.Commands.{passwordIn, bankIn, pointerIn, countIn, dataIn, ldIn, aimRight, parseInventory, parseRead, parseWrite, parseLock, parseKill, parse, gone, ifPresent, admitted, outside, inventoryVerdict, readAct, readVerdict, writeAct, writeVerdict, lockAct, lockVerdict, killAct, killVerdict, verdict, actOf}
+use Rattle.image.specs.Image.{bankAt, view, rssi, bankOf, wordAt, epcLength, killPassword, accessPassword}
 use Rattle.tag.specs.Locks.{pairs, bitsOf, standing, killStandingOf, killStanding, newPairs, breaksPermalock}
-use Rattle.tag.specs.declared.commands.Act.the-variants.{PlainError, TagError, Notify, Give, Store, SetLocks, SetKilled}
-use Rattle.tag.specs.declared.commands.Command.{Command}
+use Rattle.tag.specs.declared.commands.Act.the-variants.{PlainError, TagError, Notify, Give, Store, Set}
+use Rattle.tag.specs.declared.commands.Parsed.{Parsed}
 use Rattle.tag.specs.declared.locks.KillStanding.the-variants.{NoneStored, Equal, Different}
 
-verdict-pick : (image p : List ℕ) (test : Bool) (x y : Command) → verdict image p (pick test x y) ≡ pick test (verdict image p x) (verdict image p y)
+verdict-pick : (image p : List ℕ) (test : Bool) (x y : Parsed) → verdict image p (pick test x y) ≡ pick test (verdict image p x) (verdict image p y)
 unfolding pick
 verdict-pick image p true x y = refl
 verdict-pick image p false x y = refl
@@ -34,8 +34,8 @@ verdict-pick image p false x y = refl
 
 inventory-acts : (image p : List ℕ)
     → actOf image 0x22 p ≡ pick (not (eqb (length p) 0)) (PlainError 0x17) (pick (not (eqb (byte image 22) 0)) (PlainError 0x15) Notify)
-unfolding actOf parse parseInventory verdict inventoryVerdict gone view
-inventory-acts image p = simp (pick-true, pick-false, pick-not {X = Command} (eqb (length p) 0), verdict-pick)
+unfolding actOf parse parseInventory verdict inventoryVerdict ifPresent gone view
+inventory-acts image p = simp (pick-true, pick-false, pick-not {X = Parsed} (eqb (length p) 0), verdict-pick)
 
 notified-is : (image p : List ℕ)
     → outcome image p Notify
@@ -45,7 +45,7 @@ notified-is : (image p : List ℕ)
           ∷ (Claims.pcAndEpc image ++ (tagCrc (Claims.pcAndEpc image) / 256 % 256 ∷ tagCrc (Claims.pcAndEpc image) % 256 ∷ []))),
       image,
     )
-unfolding outcome answer changed frameOf checked checkOf twoBytes tail pcAndEpc view bankAt wordAt epcLength rssi
+unfolding outcome answer changed frameOf checked checkOf bytesOf tail pcAndEpc view bankAt wordAt epcLength rssi
 notified-is image p = refl
 
 pub inventory-rows : InventoryRows
@@ -66,11 +66,11 @@ read-acts image p = simp (pick-true, pick-false, pick-all-three, verdict-pick)
 given-is : (image p : List ℕ) → byte p 4 ≤ 3
     → outcome image p (Give (wordAt (bankOf (view image) (byte p 4)) (number p 5)) (2 * number p 7))
     ≡ (framed 0x01 0x39 (Claims.tail image ++ part image (offsetOf image (byte p 4) + 2 * number p 5) (2 * number p 7)), image)
-unfolding outcome answer changed frameOf checked checkOf twoBytes tail pcAndEpc view bankAt wordAt epcLength
+unfolding outcome answer changed frameOf checked checkOf bytesOf tail pcAndEpc view bankAt wordAt epcLength
 given-is image p known = rw (offset-is image (byte p 4) known)
 
 pub read-rows : ReadRows
-unfolding readVerdict gone outside standing accessPassword view bankAt
+unfolding readVerdict readAct admitted ifPresent gone outside standing accessPassword view bankAt
 read-rows image p =
     rw (read-acts image p)
     (plain-row image p _ _ _ _ refl λ length.
@@ -101,11 +101,11 @@ write-acts image p = simp (pick-true, pick-false, pick-all-three, verdict-pick) 
 written-is : (image p : List ℕ) → byte p 4 ≤ 3
     → outcome image p (Store (wordAt (bankOf (view image) (byte p 4)) (number p 5)))
     ≡ stored image 0x49 (offsetOf image (byte p 4) + 2 * number p 5) (drop 9 p)
-unfolding outcome answer changed frameOf checked checkOf twoBytes tail pcAndEpc view bankAt wordAt epcLength dataIn
+unfolding outcome answer changed frameOf checked checkOf bytesOf tail pcAndEpc view bankAt wordAt epcLength dataIn
 written-is image p known = rw (offset-is image (byte p 4) known)
 
 pub write-rows : WriteRows
-unfolding writeVerdict gone outside standing accessPassword view bankAt
+unfolding writeVerdict writeAct admitted ifPresent gone outside standing accessPassword view bankAt
 write-rows image p =
     rw (write-acts image p)
     (plain-row image p _ _ _ _ refl λ short.
@@ -145,14 +145,14 @@ lock-acts image p = simp (ld-is, pick-true, pick-false, pick-both, verdict-pick)
 
 locked-is : (image p : List ℕ)
     → let new : ℕ → ℕ = Claims.newBit (number image 20) (ld p) in
-    outcome image p (SetLocks (bitsOf (newPairs (pairs (ld p / 1024)) (pairs (ld p % 1024)) (pairs (number image 20)))))
+    outcome image p (Set 0x82 20 2 (bitsOf (newPairs (pairs (ld p / 1024)) (pairs (ld p % 1024)) (pairs (number image 20)))))
     ≡ stored image 0x82 20
     ((2 * new 9 + new 8) ∷ (128 * new 7 + 64 * new 6 + 32 * new 5 + 16 * new 4 + 8 * new 3 + 4 * new 2 + 2 * new 1 + new 0) ∷ [])
-unfolding outcome answer changed frameOf checked checkOf twoBytes tail pcAndEpc view bankAt wordAt epcLength
+unfolding outcome answer changed frameOf checked checkOf bytesOf tail pcAndEpc view bankAt wordAt epcLength
 locked-is image p = ap (stored image 0x82 20) (two-stored (ld p) (number image 20))
 
 pub lock-rows : LockRows
-unfolding lockVerdict gone standing accessPassword view bankAt pairs breaksPermalock newPairs
+unfolding lockVerdict lockAct admitted ifPresent gone standing accessPassword view bankAt pairs breaksPermalock newPairs
 lock-rows image p =
     let l : ℕ = ld p in
     let n : ℕ = number image 20 in
@@ -173,8 +173,8 @@ lock-rows image p =
 
 -- ---- 0x65
 
-kill-pick : (a b : Bool) → killActs (pick a NoneStored (pick b Equal Different)) ≡ pick a (TagError 0xD0) (pick (not b) (PlainError 0x12) SetKilled)
-unfolding pick killActs
+kill-pick : (a b : Bool) → killAct (pick a NoneStored (pick b Equal Different)) ≡ pick a (TagError 0xD0) (pick (not b) (PlainError 0x12) (Set 0x65 22 1 1))
+unfolding pick killAct
 kill-pick true b = refl
 kill-pick false true = refl
 kill-pick false false = refl
@@ -183,12 +183,12 @@ kill-acts : (image p : List ℕ)
     → actOf image 0x65 p
     ≡ pick (not (eqb (length p) 4)) (PlainError 0x17)
     (pick (not (eqb (byte image 22) 0)) (PlainError 0x12)
-    (pick (eqb (killStored image) 0) (TagError 0xD0) (pick (not (eqb (double p 0) (killStored image))) (PlainError 0x12) SetKilled)))
-unfolding actOf parse parseKill verdict passwordIn killVerdict killStanding killStandingOf killPassword view bankAt gone
-kill-acts image p = simp (pick-true, pick-false, pick-not {X = Command} (eqb (length p) 4), verdict-pick, kill-pick)
+    (pick (eqb (killStored image) 0) (TagError 0xD0) (pick (not (eqb (double p 0) (killStored image))) (PlainError 0x12) (Set 0x65 22 1 1))))
+unfolding actOf parse parseKill verdict passwordIn killVerdict ifPresent killStanding killStandingOf killPassword view bankAt gone
+kill-acts image p = simp (pick-true, pick-false, pick-not {X = Parsed} (eqb (length p) 4), verdict-pick, kill-pick)
 
-killed-is : (image p : List ℕ) → outcome image p SetKilled ≡ stored image 0x65 22 (1 ∷ [])
-unfolding outcome answer changed frameOf checked checkOf twoBytes tail pcAndEpc view bankAt wordAt epcLength
+killed-is : (image p : List ℕ) → outcome image p (Set 0x65 22 1 1) ≡ stored image 0x65 22 (1 ∷ [])
+unfolding outcome answer changed frameOf checked checkOf bytesOf tail pcAndEpc view bankAt wordAt epcLength
 killed-is image p = refl
 
 pub kill-rows : KillRows

@@ -1,15 +1,11 @@
 pub mod AnswerBytes
-pub mod Banks
 pub mod Cases
-pub mod Changes
 pub mod Claimed
 pub mod CommandRows
 pub mod Data
-pub mod GoodImages
-pub mod ImageTable
 pub mod LockPairs
 pub mod LockWords
-pub mod Places
+pub mod NamedWords
 pub mod RawLocks
 pub mod RawTests
 pub mod Reach

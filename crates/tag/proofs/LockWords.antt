@@ -9,9 +9,9 @@ use native.Mathlib.Omega.{arith}
 use Rattle.frame.proofs.Picks.{pick-true, pick-false}
 use Rattle.frame.specs.Bytes.{pick}
 use Rattle.tag.specs.Claims.{PairBits, LockTable, Regions, RangeBeforeLock, Standings, NewPair}
-use Rattle.tag.specs.Commands.{outside, readVerdict, writeVerdict}
+use Rattle.tag.specs.Commands.{ifPresent, admitted, outside, readAct, readVerdict, writeAct, writeVerdict}
 use Rattle.tag.specs.Locks.{pairs, standingOf, isSecured, allows, touches, mayTouchPasswords, mayRead, mayWrite, newBit, newPair}
-use Rattle.tag.specs.declared.image.View.{View}
+use Rattle.image.specs.declared.header.View.{View}
 use Rattle.tag.specs.declared.locks.Standing.{Standing}
 
 -- a pair is its two bits; k is half the weight of the upper one
@@ -51,7 +51,7 @@ regions v s pointer n =
     }
 
 pub range-before-lock : (v : View) (s : Standing) (bank pointer n : ℕ) (words : List ℕ) → RangeBeforeLock v s bank pointer n words
-unfolding readVerdict writeVerdict outside
+unfolding readVerdict readAct writeVerdict writeAct admitted ifPresent outside
 range-before-lock v s bank pointer n words =
     record {
       read = λ g w far. simp (g, w, lt-ltb _ _ far, pick-true, pick-false);

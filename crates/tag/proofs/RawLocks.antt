@@ -3,11 +3,11 @@ use Prim.Native.Nat.{ℕ, _+_, _*_, _/_, _%_, _^_, _≤_, _<_, zero, suc}
 use borrow.Author.Tests.{eqb-true, eqb-false, ltb-true, ltb-false, eq-eqb, ne-eqb}
 use lib.Dec.{eqb, ltb}
 use mathlib.Core.Bool.{Bool, true, false, not, _&&_, _||_}
-use mathlib.Core.List.{List, [], _∷_}
+use mathlib.Core.List.{[], _∷_}
 use mathlib.Core.Path.{_≡_, ap}
 use native.Mathlib.Omega.{arith}
 use Rattle.frame.proofs.Tests.{either}
-use Rattle.frame.specs.Bytes.{pick, twoBytes}
+use Rattle.frame.specs.Bytes.{pick, bytesOf, twoBytes}
 use Rattle.tag.specs.Claims as Claims
 use Rattle.tag.specs.Claims.{bit}
 use Rattle.tag.specs.Locks as Locks
@@ -108,7 +108,7 @@ ten-bits : (b9 b8 b7 b6 b5 b4 b3 b2 b1 b0 : ℕ)
     → (b9 < 2) × (b8 < 2) → (b7 < 2) × (b6 < 2) → (b5 < 2) × (b4 < 2) → (b3 < 2) × (b2 < 2) → (b1 < 2) × (b0 < 2)
     → twoBytes ((2 * b9 + b8) * 256 + (2 * b7 + b6) * 64 + (2 * b5 + b4) * 16 + (2 * b3 + b2) * 4 + (2 * b1 + b0))
     ≡ (2 * b9 + b8) ∷ (128 * b7 + 64 * b6 + 32 * b5 + 16 * b4 + 8 * b3 + 4 * b2 + 2 * b1 + b0) ∷ []
-unfolding twoBytes
+unfolding bytesOf
 ten-bits b9 b8 b7 b6 b5 b4 b3 b2 b1 b0 s9 s7 s5 s3 s1 =
     let n : ℕ = (2 * b9 + b8) * 256 + (2 * b7 + b6) * 64 + (2 * b5 + b4) * 16 + (2 * b3 + b2) * 4 + (2 * b1 + b0) in
     let first : n / 256 % 256 ≡ 2 * b9 + b8 = omega arith in

@@ -14,7 +14,7 @@ use Rattle.tag.proofs.Data.{number-in-data}
 use Rattle.tag.proofs.LockWords.{two-bits, lowest-bits}
 use Rattle.tag.specs.Claims.{accessStored, wrong, secured, refuses, among}
 use Rattle.tag.specs.Commands.{dataIn, lengthBroken}
-use Rattle.tag.specs.Image.{bankAt, view, bankOf, epcLength, accessPassword}
+use Rattle.image.specs.Image.{bankAt, view, bankOf, epcLength, accessPassword}
 use Rattle.tag.specs.Locks.{pairs, standingOf, standing, isSecured, isWrong, allows, touches, mayTouchPasswords, mayRead, mayWrite}
 use Rattle.tag.specs.declared.commands.Act.{Act}
 use Rattle.tag.specs.declared.locks.Standing.{Standing}

@@ -1,17 +1,18 @@
 -- Laws of the words that a command reaches: which regions they touch, tested without a sum that could wrap, and whether they are
 -- in their bank.
 use Prim.Native.Nat.{ℕ, _+_, _-_, _<_, _≤_}
-use mathlib.Core.Bool.{true, false, and-false}
+use mathlib.Core.Bool.{Bool, true, false, and-false}
 use mathlib.Core.Path.{_≡_, sym}
 use borrow.Author.Tests.{leb-true, leb-false, lt-ltb, le-ltb, ltb-false}
 use lib.Dec.{leb, ltb}
 use native.Mathlib.Omega.{arith}
-use Rattle.tag.proofs.Banks.{small-bank}
-use Rattle.tag.specs.Bounds.{Small}
+use Rattle.frame.proofs.Tests.{fails}
+use Rattle.image.proofs.Banks.{small-bank}
+use Rattle.image.specs.Bounds.{Small}
 use Rattle.tag.specs.Commands.{outside}
-use Rattle.tag.specs.Image.{bankOf}
+use Rattle.image.specs.Image.{bankOf}
 use Rattle.tag.specs.Locks.{touches}
-use Rattle.tag.specs.declared.image.View.{View}
+use Rattle.image.specs.declared.header.View.{View}
 
 module _ (pointer count first : ℕ) where
   pub starts-behind : first + 2 ≤ pointer → false ≡ touches pointer count first
@@ -45,10 +46,12 @@ pub record Near (v : View) (bank pointer count : ℕ) : Type 0 where
 pub inside-near :
     (v : View) (bank pointer count : ℕ)
     → Small v
-    → outside v bank pointer count ≡ false
+    → {answer : Bool}
+    → answer ≡ false
+    → answer ≡ outside v bank pointer count
     → Near v bank pointer count
 unfolding outside
-inside-near v bank pointer count s e =
+inside-near v bank pointer count s a e =
     let small = small-bank v bank s in
-    let within = ltb-false (bankOf v bank .words) (pointer + count) e in
+    let within = ltb-false (bankOf v bank .words) (pointer + count) (fails a e) in
     record { span-near = omega arith; offset-near = small .offset-small }

@@ -3,20 +3,20 @@ use Prim.Native.Nat.{ℕ}
 use mathlib.Core.Bool.{Bool, true, false}
 use mathlib.Core.List.{List, [], _∷_}
 use mathlib.Core.Path.{_≡_, refl}
-use Rattle.frame.specs.Bytes.{pick, firstOf, twoBytes}
+use Rattle.frame.specs.Bytes.{pick, firstOf, bytesOf}
 use Rattle.frame.specs.Frames.{frameOf, checked, checkOf}
 use Rattle.tag.specs.Answers.{pcAndEpc, tail, answer, changed}
 use Rattle.tag.specs.Claims.{outcome, plain, tagError}
-use Rattle.tag.specs.Image.{bankAt, view, wordAt, epcLength}
+use Rattle.image.specs.Image.{bankAt, view, wordAt, epcLength}
 use Rattle.tag.specs.declared.commands.Act.{Act}
 use Rattle.tag.specs.declared.commands.Act.the-variants.{PlainError, TagError}
 
 pub plain-is : (image p : List ℕ) (e : ℕ) → outcome image p (PlainError e) ≡ plain image e
-unfolding outcome answer changed frameOf checked checkOf twoBytes
+unfolding outcome answer changed frameOf checked checkOf bytesOf
 plain-is image p e = refl
 
 pub tag-error-is : (image p : List ℕ) (e : ℕ) → outcome image p (TagError e) ≡ tagError image e
-unfolding outcome answer changed frameOf checked checkOf twoBytes tail pcAndEpc view bankAt wordAt epcLength
+unfolding outcome answer changed frameOf checked checkOf bytesOf tail pcAndEpc view bankAt wordAt epcLength
 tag-error-is image p e = refl
 
 -- the definition's test is the row's; the rows behind it are reached where it fails

@@ -8,25 +8,32 @@ use mathlib.Core.Bool.{true, false}
 use mathlib.Core.List.{List, [], _∷_}
 use mathlib.Core.Path.{_≡_, ap, sym, subst, _∙_}
 use native.Mathlib.Omega.{arith}
-use Rattle.frame.proofs.Numbers.{byte-one, number-two-bytes, length-two-bytes}
+use Rattle.frame.proofs.Numbers.{byte-one, number-two-bytes, length-bytes-of}
 use Rattle.frame.proofs.Stores.{byte-sets-before, byte-sets-behind, byte-sets-in, number-sets-before, number-sets-behind, number-sets-in}
 use Rattle.frame.proofs.Tests.{either}
-use Rattle.frame.specs.Bytes.{byte, number, twoBytes}
+use Rattle.frame.specs.Bytes.{byte, number, bytesOf, twoBytes}
 use Rattle.tag.proofs.Cases.{Writes, placeOf, newBits, act-cases}
-use Rattle.tag.proofs.Places.{Inside, inside, bank-cases, data-length}
-use Rattle.tag.proofs.Changes.{changedView, view-sets}
-use Rattle.tag.proofs.GoodImages.{Good, good-facts, good-holds}
+use Rattle.image.proofs.Places.{bank-cases}
+use Rattle.tag.proofs.NamedWords.{Inside, inside, data-length}
+use Rattle.image.proofs.Changes.{view-sets}
+use Rattle.image.proofs.GoodImages.{Good, good-facts, good-holds}
 use Rattle.tag.proofs.LockPairs.{pairs-small, new-pairs-small, bits-small}
 use Rattle.tag.specs.Answers.{changed}
 use Rattle.tag.specs.Commands.{bankIn, pointerIn, countIn, dataIn, ldIn, lengthBroken, actOf}
-use Rattle.tag.specs.Image.{good, view, bankAt, bankOf, wordAt, epcLength}
+use Rattle.image.specs.Image.{good, view, bankAt, bankOf, wordAt, epcLength}
 use Rattle.tag.specs.declared.commands.Act.{Act}
-use Rattle.tag.specs.declared.image.Bank.{Bank}
-use Rattle.tag.specs.declared.image.View.{View}
+use Rattle.image.specs.declared.header.Bank.{Bank}
+use Rattle.image.specs.declared.header.View.{View}
 
-good-changed : (v : View) (pc locks state : ℕ) → Good v → locks < 1024 → state ≤ 2 → epcLength pc + 2 ≤ v .epc .words
-    → Good (changedView v pc locks state)
-good-changed v pc locks state g l s e =
+-- a store from the lock bits on leaves the image good where the lock bits, the state and the PC after it are such
+good-after : (image : List ℕ) (at : ℕ) (bytes : List ℕ) → Good (view image) → 20 ≤ at
+    → number (sets image at bytes) 20 < 1024
+    → byte (sets image at bytes) 22 ≤ 2
+    → epcLength (number (sets image at bytes) (view image .epc .offset + 2)) + 2 ≤ view image .epc .words
+    → Good (view (sets image at bytes))
+unfolding view bankAt
+good-after image at bytes g behind locks state fits =
+    subst Good (sym (view-sets image at bytes behind))
     record {
       format-1 = g .format-1;
       total-lent = g .total-lent;
@@ -38,14 +45,14 @@ good-changed v pc locks state g l s e =
       tid-least = g .tid-least;
       tid-most = g .tid-most;
       user-most = g .user-most;
-      upper-six = l;
-      state-known = s;
+      upper-six = locks;
+      state-known = state;
       reserved-place = g .reserved-place;
       epc-place = g .epc-place;
       tid-place = g .tid-place;
       user-place = g .user-place;
       last-end = g .last-end;
-      epc-fits = e;
+      epc-fits = fits;
     }
 
 -- ---- a Write: the PC after it
@@ -111,38 +118,34 @@ good-store : (image p : List ℕ) → Good (view image) → Writes image p → G
 unfolding FitsAfter pcAfter view bankAt
 good-store image p g w =
     let at : Inside image p = inside image p g (w .aim) in
-    let v : View = view image in
-    subst Good (sym (view-sets image (placeOf image p) (dataIn p) (omega arith)))
-    (good-changed v _ _ _ g
+    good-after image (placeOf image p) (dataIn p) g (omega arith)
     (rw (number-sets-before image (placeOf image p) (dataIn p) 20 (omega arith)) (g .upper-six))
     (rw (byte-sets-before image (placeOf image p) (dataIn p) 22 (omega arith)) (g .state-known))
-    (fits-after image g (pointerIn p) (countIn p) (dataIn p) (data-length image p w) (bankIn p) (w .aim .bank-known) (w .aim .inside) (w .kept)))
+    (fits-after image g (pointerIn p) (countIn p) (dataIn p) (data-length image p w) (bankIn p) (w .aim .bank-known) (w .aim .inside) (w .kept))
 
 good-locks : (image : List ℕ) (bits : ℕ) → Good (view image) → bits < 1024 → Good (view (sets image 20 (twoBytes bits)))
 unfolding view bankAt
 good-locks image bits g small =
-    let two : length (twoBytes bits) ≡ 2 = length-two-bytes bits in
+    let two : length (twoBytes bits) ≡ 2 = length-bytes-of 2 bits in
     let new : number (sets image 20 (twoBytes bits)) 20 ≡ bits =
     number-sets-in image 20 (twoBytes bits) 0 (omega arith) (omega arith) ∙ number-two-bytes bits (omega arith)
     in
-    subst Good (sym (view-sets image 20 (twoBytes bits) (omega arith)))
-    (good-changed (view image) _ _ _ g (rw new small)
+    good-after image 20 (twoBytes bits) g (omega arith) (rw new small)
     (rw (byte-sets-behind image 20 (twoBytes bits) 22 (omega arith)) (g .state-known))
-    (rw (number-sets-behind image 20 (twoBytes bits) (view image .epc .offset + 2) (omega arith)) (g .epc-fits)))
+    (rw (number-sets-behind image 20 (twoBytes bits) (view image .epc .offset + 2) (omega arith)) (g .epc-fits))
 
 good-killed : (image : List ℕ) → Good (view image) → Good (view (sets image 22 (1 ∷ [])))
 unfolding view bankAt
 good-killed image g =
     let new : byte (sets image 22 (1 ∷ [])) 22 ≡ 1 = byte-sets-in image 22 (1 ∷ []) 0 (omega arith) (omega arith) ∙ byte-one 1 in
-    subst Good (sym (view-sets image 22 (1 ∷ []) (omega arith)))
-    (good-changed (view image) _ _ _ g
+    good-after image 22 (1 ∷ []) g (omega arith)
     (rw (number-sets-before image 22 (1 ∷ []) 20 (omega arith)) (g .upper-six))
     (rw new (omega arith))
-    (rw (number-sets-behind image 22 (1 ∷ []) (view image .epc .offset + 2) (omega arith)) (g .epc-fits)))
+    (rw (number-sets-behind image 22 (1 ∷ []) (view image .epc .offset + 2) (omega arith)) (g .epc-fits))
 
 -- "After every call a good image is good."
 pub stays-good : (image p : List ℕ) (code : ℕ) → good image ≡ true → good (changed image p (actOf image code p)) ≡ true
-unfolding changed
+unfolding changed bytesOf
 stays-good image p code h =
     let g : Good (view image) = good-facts image h in
     act-cases (λ (act : Act). good (changed image p act) ≡ true) (λ e. h) (λ e. h) image p code

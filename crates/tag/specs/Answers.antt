@@ -4,12 +4,12 @@ use mathlib.Core.Bool.{Bool, true, false}
 use mathlib.Core.List.{List, [], _∷_, _++_}
 use lib.Seq.{sets}
 use Rattle.crc.specs.Crc.{tagCrc}
-use Rattle.frame.specs.Bytes.{twoBytes, part}
+use Rattle.frame.specs.Bytes.{bytesOf, twoBytes, part}
 use Rattle.frame.specs.Frames.{frameOf}
 use Rattle.tag.specs.Commands.{dataIn}
-use Rattle.tag.specs.Image.{view, rssi, wordAt, epcLength}
+use Rattle.image.specs.Image.{view, rssi, wordAt, epcLength}
 use Rattle.tag.specs.declared.commands.Act.{Act}
-use Rattle.tag.specs.declared.commands.Act.the-variants.{PlainError, TagError, Notify, Give, Store, SetLocks, SetKilled}
+use Rattle.tag.specs.declared.commands.Act.the-variants.{PlainError, TagError, Notify, Give, Store, Set}
 
 -- the PC and the EPC: EPC word 1 and the L words that follow it
 unfoldable pub pcAndEpc : List ℕ → List ℕ
@@ -28,8 +28,7 @@ answer image (TagError e) = frameOf 0x01 0xFF (e ∷ tail image)
 answer image Notify = frameOf 0x02 0x22 (rssi image ∷ (pcAndEpc image ++ twoBytes (tagCrc (pcAndEpc image))))
 answer image (Give at n) = frameOf 0x01 0x39 (tail image ++ part image at n)
 answer image (Store at) = frameOf 0x01 0x49 (tail image ++ (0x00 ∷ []))
-answer image (SetLocks bits) = frameOf 0x01 0x82 (tail image ++ (0x00 ∷ []))
-answer image SetKilled = frameOf 0x01 0x65 (tail image ++ (0x00 ∷ []))
+answer image (Set code at count value) = frameOf 0x01 code (tail image ++ (0x00 ∷ []))
 
 -- the image after an act: "all words are written", "all pairs are stored", "state becomes 1"; `p` are the command's parameters
 unfoldable pub changed : List ℕ → List ℕ → Act → List ℕ
@@ -38,8 +37,7 @@ changed image p (TagError e) = image
 changed image p Notify = image
 changed image p (Give at n) = image
 changed image p (Store at) = sets image at (dataIn p)
-changed image p (SetLocks bits) = sets image 20 (twoBytes bits)
-changed image p SetKilled = sets image 22 (1 ∷ [])
+changed image p (Set code at count value) = sets image at (bytesOf count value)
 
 -- "An error answer is one with code FF."
 unfoldable pub isError : Act → Bool
@@ -48,5 +46,4 @@ isError (TagError e) = true
 isError Notify = false
 isError (Give at n) = false
 isError (Store at) = false
-isError (SetLocks bits) = false
-isError SetKilled = false
+isError (Set code at count value) = false

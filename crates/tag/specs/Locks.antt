@@ -4,13 +4,13 @@ use mathlib.Core.Bool.{Bool, true, false, not, _&&_, _||_}
 use mathlib.Core.List.{List}
 use lib.Dec.{eqb, ltb}
 use Rattle.frame.specs.Bytes.{pick}
-use Rattle.tag.specs.Image.{killPassword, accessPassword}
+use Rattle.image.specs.Image.{killPassword, accessPassword}
 use Rattle.tag.specs.declared.locks.KillStanding.{KillStanding}
 use Rattle.tag.specs.declared.locks.KillStanding.the-variants.{NoneStored, Equal, Different}
 use Rattle.tag.specs.declared.locks.Pairs.{Pairs}
 use Rattle.tag.specs.declared.locks.Standing.{Standing}
 use Rattle.tag.specs.declared.locks.Standing.the-variants.{Secured, Open, Wrong}
-use Rattle.tag.specs.declared.image.View.{View}
+use Rattle.image.specs.declared.header.View.{View}
 
 -- "Pairs, from bit 9 down: kill 9,8; access 7,6; EPC 5,4; TID 3,2; User 1,0."
 unfoldable pub pairs : ℕ → Pairs

@@ -1,16 +1,20 @@
 // What a command comes to on a tag's image (document 01, "The commands, checks in order").
+use crate::admission::admit;
+use crate::admission::if_present;
 use crate::commands::Act;
-use crate::commands::Command;
-use crate::image::view_of;
+use crate::commands::Parsed;
+use crate::lock_acts::kill_act;
+use crate::lock_acts::lock_act;
 use crate::locks;
 use crate::locks::KillStanding;
 use crate::locks::Standing;
 use crate::parsing;
-use crate::verdicts;
-use crate::words;
+use crate::word_acts::read_act;
+use crate::word_acts::write_act;
 use frame::bytes;
+use image::header::view_of;
 ghost use mathlib.Core.Path.{_≡_};
-ghost use Rattle.tag.specs.Commands.{actOf};
+ghost use Rattle.tag.specs.Commands.{verdict, actOf};
 ghost use Rattle.tag.specs.Locks.{standing, killStanding};
 
 // The access password stands four bytes behind the Reserved offset, which bytes 6 and 7 hold.
@@ -30,39 +34,50 @@ fn kill_standing_to(image: &[u8], given: usize) -> KillStanding
     locks::kill_standing_of(bytes::double_at(image, bytes::number_at(image, 6)), given)
 }
 
+// What a parsed command comes to; of its parameters only a Write's data is looked at again.
+fn verdict(image: &[u8], p: &[u8], command: Parsed) -> Act
+    ensures { λ r. ⌜ r ≡ verdict (now (image .entry)) (now (p .entry)) command ⌝ }
+{
+    let v = view_of(image);
+    match command {
+        Parsed::Malformed => Act::PlainError(0x17),
+        Parsed::Inventory => if_present(v, 0x15, Act::Notify),
+        Parsed::Read {
+            password,
+            bank,
+            pointer,
+            count,
+        } => {
+            let s = standing_to(image, password);
+            admit(v, s, 0x09, read_act(v, s, bank, pointer, count))
+        }
+        Parsed::Write {
+            password,
+            bank,
+            pointer,
+            count,
+        } => {
+            let s = standing_to(image, password);
+            admit(v, s, 0x10, write_act(v, s, bank, pointer, count, p))
+        }
+        Parsed::Lock {
+            password,
+            mask,
+            action,
+        } => {
+            let s = standing_to(image, password);
+            admit(v, s, 0x13, lock_act(v, s, mask, action))
+        }
+        Parsed::Kill { password } => {
+            let k = kill_standing_to(image, password);
+            if_present(v, 0x12, kill_act(k))
+        }
+    }
+}
+
 // For any image, also a bad one, and any parameters.
 pub fn act_of(image: &[u8], code: u8, parameters: &[u8]) -> Act
     ensures { λ r. ⌜ r ≡ actOf (now (image .entry)) code (now (parameters .entry)) ⌝ }
 {
-    let command = parsing::parse_command(code, parameters);
-    let v = view_of(image);
-    match command {
-        Command::Malformed => Act::PlainError(0x17),
-        Command::Inventory => verdicts::inventory_verdict(v),
-        Command::Read {
-            password,
-            bank,
-            pointer,
-            count,
-        } => words::read_verdict(v, standing_to(image, password), bank, pointer, count),
-        Command::Write {
-            password,
-            bank,
-            pointer,
-            count,
-        } => words::write_verdict(
-            v,
-            standing_to(image, password),
-            bank,
-            pointer,
-            count,
-            parameters,
-        ),
-        Command::Lock {
-            password,
-            mask,
-            action,
-        } => verdicts::lock_verdict(v, standing_to(image, password), mask, action),
-        Command::Kill { password } => verdicts::kill_verdict(v, kill_standing_to(image, password)),
-    }
+    verdict(image, parameters, parsing::parse_command(code, parameters))
 }

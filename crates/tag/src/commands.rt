@@ -1,7 +1,7 @@
 // A command, and what it comes to (document 01, "The commands, checks in order").
 
 // A command whose fields are right. Malformed is any other, and any code that is not listed.
-pub enum Command {
+pub enum Parsed {
     Malformed,
     Inventory,
     Read {
@@ -35,11 +35,19 @@ pub enum Act {
     // The notification of an inventory.
     Notify,
     // A Read hands out the bytes from `at` on.
-    Give { at: usize, length: usize },
+    Give {
+        at: usize,
+        length: usize,
+    },
     // A Write stores its data bytes from `at` on.
-    Store { at: usize },
-    // A Lock stores all pairs.
-    SetLocks(usize),
-    // A Kill sets the state to 1.
-    SetKilled,
+    Store {
+        at: usize,
+    },
+    // A Lock or a Kill, answered under `code`: the `count` bytes from `at` on become `value`, high byte first.
+    Set {
+        code: u8,
+        at: usize,
+        count: usize,
+        value: usize,
+    },
 }

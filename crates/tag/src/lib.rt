@@ -1,11 +1,10 @@
 // One Gen2 tag, held as an image of its memory (document 01, "The image", "Lock bits" and "The commands").
 pub mod acts;
+mod admission;
 pub mod commands;
-pub mod good;
-pub mod image;
+mod lock_acts;
 pub mod locks;
+mod new_locks;
 mod parsing;
 mod regions;
-mod relocks;
-mod verdicts;
-mod words;
+mod word_acts;

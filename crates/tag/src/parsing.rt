@@ -1,11 +1,11 @@
 // A command from its code and parameters alone: here all plain 17 answers fall (document 01, "The commands, checks in order").
-use crate::commands::Command;
+use crate::commands::Parsed;
 use frame::bytes;
 ghost use mathlib.Core.Path.{_≡_};
 ghost use Prim.Native.Nat.{_<_};
 ghost use Rattle.tag.specs.Commands.{bankIn, ldIn, aimRight, parseInventory, parseRead, parseWrite, parseLock, parseKill, parse};
 
-fn bank_in(p: &[u8]) -> usize
+fn bank_number(p: &[u8]) -> usize
     ensures { λ r. ⌜ r ≡ bankIn (now (p .entry)) ⌝ }
     ensures { λ r. ⌜ r < 256 ⌝ }
 {
@@ -15,7 +15,7 @@ fn bank_in(p: &[u8]) -> usize
 fn ld_in(p: &[u8]) -> usize
     ensures { λ r. ⌜ r ≡ ldIn (now (p .entry)) ⌝ }
 {
-    bank_in(p) * 65536 + bytes::number_at(p, 5)
+    bank_number(p) * 65536 + bytes::number_at(p, 5)
 }
 
 // Bank and count of a Read or a Write are in their ranges.
@@ -23,7 +23,7 @@ fn aims_right(p: &[u8]) -> bool
     ensures { λ r. ⌜ r ≡ aimRight (now (p .entry)) ⌝ }
 {
     let count = bytes::number_at(p, 7);
-    if 3 < bank_in(p) {
+    if 3 < bank_number(p) {
         return false;
     }
     if count < 1 {
@@ -35,79 +35,79 @@ fn aims_right(p: &[u8]) -> bool
     true
 }
 
-fn parse_inventory(p: &[u8]) -> Command
+fn parse_inventory(p: &[u8]) -> Parsed
     ensures { λ r. ⌜ r ≡ parseInventory (now (p .entry)) ⌝ }
 {
     if p.len() != 0 {
-        return Command::Malformed;
+        return Parsed::Malformed;
     }
-    Command::Inventory
+    Parsed::Inventory
 }
 
-fn parse_read(p: &[u8]) -> Command
+fn parse_read(p: &[u8]) -> Parsed
     ensures { λ r. ⌜ r ≡ parseRead (now (p .entry)) ⌝ }
 {
     if p.len() != 9 {
-        return Command::Malformed;
+        return Parsed::Malformed;
     }
     if !aims_right(p) {
-        return Command::Malformed;
+        return Parsed::Malformed;
     }
-    Command::Read {
+    Parsed::Read {
         password: bytes::double_at(p, 0),
-        bank: bank_in(p),
+        bank: bank_number(p),
         pointer: bytes::number_at(p, 5),
         count: bytes::number_at(p, 7),
     }
 }
 
-fn parse_write(p: &[u8]) -> Command
+fn parse_write(p: &[u8]) -> Parsed
     ensures { λ r. ⌜ r ≡ parseWrite (now (p .entry)) ⌝ }
 {
     let count = bytes::number_at(p, 7);
     if p.len() != 9 + 2 * count {
-        return Command::Malformed;
+        return Parsed::Malformed;
     }
     if !aims_right(p) {
-        return Command::Malformed;
+        return Parsed::Malformed;
     }
-    Command::Write {
+    Parsed::Write {
         password: bytes::double_at(p, 0),
-        bank: bank_in(p),
+        bank: bank_number(p),
         pointer: bytes::number_at(p, 5),
         count,
     }
 }
 
-fn parse_lock(p: &[u8]) -> Command
+fn parse_lock(p: &[u8]) -> Parsed
     ensures { λ r. ⌜ r ≡ parseLock (now (p .entry)) ⌝ }
 {
     if p.len() != 7 {
-        return Command::Malformed;
+        return Parsed::Malformed;
     }
     let ld = ld_in(p);
     if 0x100000 <= ld {
-        return Command::Malformed;
+        return Parsed::Malformed;
     }
-    Command::Lock {
+    Parsed::Lock {
         password: bytes::double_at(p, 0),
         mask: ld / 1024,
         action: ld % 1024,
     }
 }
 
-fn parse_kill(p: &[u8]) -> Command
+fn parse_kill(p: &[u8]) -> Parsed
     ensures { λ r. ⌜ r ≡ parseKill (now (p .entry)) ⌝ }
 {
     if p.len() != 4 {
-        return Command::Malformed;
+        return Parsed::Malformed;
     }
-    Command::Kill {
+    Parsed::Kill {
         password: bytes::double_at(p, 0),
     }
 }
 
-pub(crate) fn parse_command(code: u8, parameters: &[u8]) -> Command
+pub(crate) fn parse_command(code: u8, parameters: &[u8]) -> Parsed
     ensures { λ r. ⌜ r ≡ parse code (now (parameters .entry)) ⌝ }
 {
     if code == 0x22 {
@@ -125,5 +125,5 @@ pub(crate) fn parse_command(code: u8, parameters: &[u8]) -> Command
     if code == 0x65 {
         return parse_kill(parameters);
     }
-    Command::Malformed
+    Parsed::Malformed
 }

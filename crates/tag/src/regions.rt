@@ -1,8 +1,8 @@
 // Which regions of the memory let a command through (document 01, "Lock bits").
-use crate::image::View;
 use crate::locks::Standing;
 use crate::locks::is_secured;
 use crate::locks::pairs_of;
+use image::header::View;
 ghost use mathlib.Core.Path.{_≡_};
 ghost use mathlib.Core.Bool.{not, _||_};
 ghost use Prim.Native.Nat.{_≤_};

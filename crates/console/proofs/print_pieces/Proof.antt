@@ -6,7 +6,7 @@ use lib.Seq.{length-take-le}
 use mathlib.Core.Path.{sym}
 use Rattle.console.proofs.Printing.{Going, going, stopped, finished, used-there, goes-on, nearer}
 use Rattle.report.specs.Report.{stepsFrom}
-use Rattle.report.specs.Writing.{standing}
+use Rattle.report.specs.Writing.{stateAt}
 use Rattle.console.proofs.print_pieces.Statement.{statement}
 use Rattle.console.proofs.print_pieces.Tie as tie
 
@@ -14,7 +14,7 @@ abbrev Inv-loop : tie.InvT-loop
 Inv-loop commands image₀ output₀ buffer₀ progress₀ image output buffer progress = Going commands image₀ output₀ buffer₀ image output buffer progress
 
 abbrev μ-loop : tie.MeasureT-loop
-μ-loop commands image₀ output₀ buffer₀ progress₀ image output buffer progress = length (stepsFrom commands (progress .over) (standing image output progress))
+μ-loop commands image₀ output₀ buffer₀ progress₀ image output buffer progress = length (stepsFrom commands (progress .over) (stateAt image output progress))
 
 start-requires : tie.Need-start-requires Inv-loop μ-loop
 start-requires c κs = search needs

@@ -28,13 +28,15 @@ slice-write-state-4 : tie.Need-slice-write-state-4
 slice-write-state-4 c = search needs
 
 slice-write-state-5 : tie.Need-slice-write-state-5
-slice-write-state-5 c = simp length-set (omega (arith, c .before .before .before .pre))
+slice-write-state-5 c = simp length-set (omega (arith, c .before .before .before .before .pre))
 
 same-length : tie.Need-same-length
 same-length c = search needs
 
 returns : tie.Need-returns
-returns c = all-stored (c .before .before .before .args .state .now) _ _ _ _ _ (c .before .before .before .pre)
+returns c =
+    let start = c .before .before .before .before in
+    all-stored (start .args .state .now) _ _ _ _ _ (start .pre)
 
 pub pack-spec : {M : Type 1} → statement M
 pack-spec =

@@ -6,20 +6,24 @@ use Rattle.bench.proofs.calling.answer.Statement.{statement}
 use Rattle.bench.proofs.calling.answer.Tie as tie
 
 add-first : tie.Need-add-first
-add-first c = search needs
+add-first c =
+    let start = c .before .before .before .before in
+    omega (arith, frame-there _ _ _ (start .args .reader) _ (start .pre))
 
 add-code : tie.Need-add-code
-add-code c = search needs
+add-code c =
+    let start = c .before .before .before .before in
+    omega (arith, frame-there _ _ _ (start .args .reader) _ (start .pre))
 
 shared-slice-read-code : tie.Need-shared-slice-read-code
 shared-slice-read-code c =
-    let start = c .before .before .before .before in
-    omega (arith, frame-there _ _ _ _ (start .args .tally) _ (start .pre))
+    let start = c .before .before .before .before .before in
+    omega (arith, frame-there _ _ _ (start .args .reader) _ (start .pre))
 
 add-execute : tie.Need-add-execute
 add-execute c =
-    let start = c .before .before .before .before .before .before in
-    omega (arith, frame-there _ _ _ _ (start .args .tally) _ (start .pre))
+    let start = c .before .before .before .before .before .before .before in
+    omega (arith, frame-there _ _ _ (start .args .reader) _ (start .pre))
 
 sub-execute : tie.Need-sub-execute
 sub-execute c = search needs
@@ -29,19 +33,23 @@ part-execute-start c = search needs
 
 part-execute-end : tie.Need-part-execute-end
 part-execute-end c =
-    let start = c .before .before .before .before .before .before in
-    omega (arith, frame-there _ _ _ _ (start .args .tally) _ (start .pre))
+    let start = c .before .before .before .before .before .before .before in
+    omega (arith, frame-there _ _ _ (start .args .reader) _ (start .pre))
 
 execute-requires : tie.Need-execute-requires
 execute-requires c κs = search needs
 
 add-next : tie.Need-add-next
-add-next c = search needs
+add-next c =
+    let done = c .before .before .before .before in
+    let start = done .before .before .before .before .before .before .before .before .before in
+    omega (arith, frame-there _ _ _ (start .args .reader) _ (start .pre))
 
 add-next-2 : tie.Need-add-next-2
 add-next-2 c =
-    let start = c .before .before .before .before .before .before .before .before .before .before .before .before in
-    omega (arith, frame-there _ _ _ _ (start .args .tally) _ (start .pre))
+    let done = c .before .before .before .before in
+    let start = done .before .before .before .before .before .before .before .before .before in
+    omega (arith, frame-there _ _ _ (start .args .reader) _ (start .pre))
 
 enum-known-executed : tie.Need-enum-known-executed
 enum-known-executed c = search needs
@@ -58,9 +66,6 @@ with-error-requires c κs = search needs
 enum-told : tie.Need-enum-told
 enum-told c = search needs
 
-stay-requires : tie.Need-stay-requires
-stay-requires c κs = search needs
-
 same-length : tie.Need-same-length
 same-length c = search needs
 
@@ -69,11 +74,12 @@ same-length-2 c = search needs
 
 returns : tie.Need-returns
 returns c =
-    let executed = c .before .before .before .before .before .before .before .before in
-    let start = executed .before .before .before .before .before .before .before .before in
-    let tally = start .args .tally in
-    answers-good _ _ _ _ tally _ (start .pre) _ _ (code-there _ _ _ _ tally _ (start .pre)) (parameters-there _ _ _ _ tally _ (start .pre)) _ _ _ (executed .execute .ensures) _ _
-    (c .before .before .executed .given .1) (c .with-good .ensures)
+    let told = c .before .before in
+    let done = told .before .before .before .before .before .before in
+    let start = done .before .before .before .before .before .before .before .before .before in
+    let reader = start .args .reader in
+    answers-good _ _ _ reader _ (start .pre) _ _ (code-there _ _ _ reader _ (start .pre)) (parameters-there _ _ _ reader _ (start .pre)) _ _ _ (done .execute .ensures)
+    _ _ (told .executed .given .1) (c .with-good .ensures)
 
 same-length-3 : tie.Need-same-length-3
 same-length-3 c = search needs
@@ -83,11 +89,12 @@ same-length-4 c = search needs
 
 returns-2 : tie.Need-returns-2
 returns-2 c =
-    let executed = c .before .before .before .before .before .before .before .before in
-    let start = executed .before .before .before .before .before .before .before .before in
-    let tally = start .args .tally in
-    answers-error _ _ _ _ tally _ (start .pre) _ _ (code-there _ _ _ _ tally _ (start .pre)) (parameters-there _ _ _ _ tally _ (start .pre)) _ _ _ (executed .execute .ensures) _ _
-    (c .before .before .executed2 .given .1) (c .with-error .ensures)
+    let told = c .before .before in
+    let done = told .before .before .before .before .before .before in
+    let start = done .before .before .before .before .before .before .before .before .before in
+    let reader = start .args .reader in
+    answers-error _ _ _ reader _ (start .pre) _ _ (code-there _ _ _ reader _ (start .pre)) (parameters-there _ _ _ reader _ (start .pre)) _ _ _ (done .execute .ensures)
+    _ _ (told .executed2 .given .1) (c .with-error .ensures)
 
 same-length-5 : tie.Need-same-length-5
 same-length-5 c = search needs
@@ -97,12 +104,12 @@ same-length-6 c = search needs
 
 returns-3 : tie.Need-returns-3
 returns-3 c =
-    let executed = c .before .before .before .before .before .before .before in
-    let start = executed .before .before .before .before .before .before .before .before in
-    let tally = start .args .tally in
+    let done = c .before .before .before .before .before .before in
+    let start = done .before .before .before .before .before .before .before .before .before in
+    let reader = start .args .reader in
     absurd
-    (never-refused _ _ _ _ tally _ (start .pre) _ _ (code-there _ _ _ _ tally _ (start .pre)) (parameters-there _ _ _ _ tally _ (start .pre)) _ _ _ (executed .execute .ensures)
-    (c .before .enum-told .given .1))
+    (never-refused _ _ _ reader _ (start .pre) _ _ (code-there _ _ _ reader _ (start .pre)) (parameters-there _ _ _ reader _ (start .pre)) _ _ _ (done .execute .ensures)
+    (c .enum-told .given .1))
 
 pub answer-spec : {M : Type 1} → statement M
 answer-spec =
@@ -123,7 +130,6 @@ answer-spec =
     enum-known-executed-2
     with-error-requires
     enum-told
-    stay-requires
     same-length
     same-length-2
     returns

@@ -6,8 +6,8 @@ use borrow.Author.Needs.{needs}
 use Rattle.execution.proofs.putting.crc_of_epc.Statement.{statement}
 use Rattle.execution.proofs.putting.crc_of_epc.Tie as tie
 
-epc-place-requires : tie.Need-epc-place-requires
-epc-place-requires c κs = search needs
+epc-span-requires : tie.Need-epc-span-requires
+epc-span-requires c κs = search needs
 
 add-to : tie.Need-add-to
 add-to c = search needs
@@ -19,7 +19,7 @@ part-tag-crc-start : tie.Need-part-tag-crc-start
 part-tag-crc-start c = search needs
 
 part-tag-crc-end : tie.Need-part-tag-crc-end
-part-tag-crc-end c = epc-there _ (c .before .before .before .pre) _ (c .before .epc-place .ensures)
+part-tag-crc-end c = epc-there _ (c .before .before .before .pre) _ (c .before .epc-span .ensures)
 
 tag-crc-requires : tie.Need-tag-crc-requires
 tag-crc-requires c κs = search needs
@@ -27,13 +27,13 @@ tag-crc-requires c κs = search needs
 returns : tie.Need-returns
 returns c =
     let placed = c .before .before .before in
-    c .tag-crc .ensures ∙ ap tagCrc (epc-between _ (placed .before .before .pre) _ (placed .epc-place .ensures))
+    c .tag-crc .ensures ∙ ap tagCrc (epc-between _ (placed .before .before .pre) _ (placed .epc-span .ensures))
 
 pub crc-of-epc-spec : {M : Type 1} → statement M
 crc-of-epc-spec =
     tie.close
     (tie.spec
-    epc-place-requires
+    epc-span-requires
     add-to
     sub-tag-crc
     part-tag-crc-start

@@ -2,14 +2,14 @@
 use lib.ListN.{length-set}
 use mathlib.Core.Path.{_∙_}
 use native.Mathlib.Omega.{arith}
-use Rattle.execution.proofs.Rounds.{length-put}
+use Rattle.frame.proofs.Stores.{length-put}
 use Rattle.execution.proofs.Tails.{tail-put}
 use borrow.Author.Needs.{needs}
 use Rattle.execution.proofs.putting.put_tail.Statement.{statement}
 use Rattle.execution.proofs.putting.put_tail.Tie as tie
 
-epc-place-requires : tie.Need-epc-place-requires
-epc-place-requires c κs = search needs
+epc-span-requires : tie.Need-epc-span-requires
+epc-span-requires c κs = search needs
 
 cast-output : tie.Need-cast-output
 cast-output c = search needs
@@ -30,7 +30,7 @@ returns : tie.Need-returns
 returns c =
     let done = c .before .before in
     let placed = done .before .before .before in (
-      tail-put _ (placed .before .before .before .pre .0) _ (placed .epc-place .ensures) _ _ _ _ (done .put-pc-and-epc .ensures .0),
+      tail-put _ (placed .before .before .before .pre .0) _ (placed .epc-span .ensures) _ _ _ _ (done .put-pc-and-epc .ensures .0),
       omega (arith, done .put-pc-and-epc .ensures .1),
     )
 
@@ -38,7 +38,7 @@ pub put-tail-spec : {M : Type 1} → statement M
 put-tail-spec =
     tie.close
     (tie.spec
-    epc-place-requires
+    epc-span-requires
     cast-output
     slice-write-output
     add-put-pc-and-epc

@@ -4,7 +4,7 @@ use lib.ListN.{length, drop}
 use lib.Seq.{sets}
 use mathlib.Core.Path.{_≡_, refl, _∙_}
 use native.Mathlib.Omega.{arith}
-use Rattle.execution.proofs.Rounds.{length-put}
+use Rattle.frame.proofs.Stores.{length-put}
 use Rattle.report.proofs.LinePuts.{hex-next, frame-more, frame-whole}
 use Rattle.report.specs.Lines.{frameLine}
 use borrow.Author.Needs.{needs}

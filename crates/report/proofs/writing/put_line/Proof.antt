@@ -18,13 +18,13 @@ enum-told c = search needs
 
 slice-aggregate-put-frame : tie.Need-slice-aggregate-put-frame
 slice-aggregate-put-frame c =
-    let start = c .before .before .before .before .before .before .before .before in
+    let start = c .before .before .before .before .before .before .before .before .before in
     let framed = start .pre .framed (c .before .before .enum-told .given .1) in
     sym (length-take-le (start .args .called .length) (start .args .output .now) (framed .there))
 
 put-frame-requires : tie.Need-put-frame-requires
 put-frame-requires c κs =
-    let start = c .before .before .before .before .before .before .before .before in
+    let start = c .before .before .before .before .before .before .before .before .before in
     let framed = start .pre .framed (c .before .before .enum-told .given .1) in
     let all = length-take-le (start .args .called .length) (start .args .output .now) (framed .there) in
     (start .pre .room, (omega (arith, all, framed .some), omega (arith, all, framed .at-most-136)))
@@ -80,7 +80,7 @@ same-length c = search needs
 returns : tie.Need-returns
 unfolding lineFor
 returns c =
-    let a = c .before .before .before .before .before .before .before .before .before .before .before .args in
+    let a = c .before .before .before .before .before .before .before .before .before .before .before .before .args in
     printed-as Answered (a .input .now) (a .cursor) (a .called) (a .output .now) _ _ _ _ (c .before .before .before .before .before .enum-told .given .1) (c .before .before .put-frame .ensures)
 
 same-length-2 : tie.Need-same-length-2
@@ -89,7 +89,7 @@ same-length-2 c = search needs
 returns-2 : tie.Need-returns-2
 unfolding lineFor
 returns-2 c =
-    let a = c .before .before .before .before .before .before .before .before .before .before .before .args in
+    let a = c .before .before .before .before .before .before .before .before .before .before .before .before .args in
     printed-as Dropped (a .input .now) (a .cursor) (a .called) (a .output .now) _ _ _ _ (c .before .before .before .before .before .enum-told2 .given .1)
     (drop-is _ _ (c .before .before .before .byte-at .ensures) (c .before .before .put-drop .ensures))
 
@@ -99,7 +99,7 @@ same-length-3 c = search needs
 returns-3 : tie.Need-returns-3
 unfolding lineFor
 returns-3 c =
-    let a = c .before .before .before .before .before .before .before .before .before .before .args in
+    let a = c .before .before .before .before .before .before .before .before .before .before .before .args in
     printed-as AtEnd (a .input .now) (a .cursor) (a .called) (a .output .now) _ _ _ _ (c .before .before .before .before .enum-told3 .given .1)
     (left-is _ _ _ (c .before .before .before .before .before .before .remaining .ensures) (c .before .before .put-counts .ensures))
 
@@ -109,7 +109,7 @@ same-length-4 c = search needs
 returns-4 : tie.Need-returns-4
 unfolding lineFor
 returns-4 c =
-    let a = c .before .before .before .before .before .before .before .before .before .before .args in
+    let a = c .before .before .before .before .before .before .before .before .before .before .before .args in
     printed-as Incomplete (a .input .now) (a .cursor) (a .called) (a .output .now) _ _ _ _ (c .before .before .before .before .enum-told4 .given .1)
     (left-is _ _ _ (c .before .before .before .before .before .before .remaining .ensures) (c .before .before .put-counts2 .ensures))
 
@@ -119,7 +119,7 @@ same-length-5 c = search needs
 returns-5 : tie.Need-returns-5
 unfolding lineFor numberOf
 returns-5 c =
-    let a = c .before .before .before .before .before .before .before .before .before .before .args in
+    let a = c .before .before .before .before .before .before .before .before .before .before .before .args in
     printed-as PastEnd (a .input .now) (a .cursor) (a .called) (a .output .now) _ _ _ _ (c .before .before .before .before .enum-told5 .given .1) (c .before .before .put-refused .ensures)
 
 same-length-6 : tie.Need-same-length-6
@@ -128,7 +128,7 @@ same-length-6 c = search needs
 returns-6 : tie.Need-returns-6
 unfolding lineFor numberOf
 returns-6 c =
-    let a = c .before .before .before .before .before .before .before .before .before .before .args in
+    let a = c .before .before .before .before .before .before .before .before .before .before .before .args in
     printed-as BadImage (a .input .now) (a .cursor) (a .called) (a .output .now) _ _ _ _ (c .before .before .before .before .enum-told6 .given .1) (c .before .before .put-refused2 .ensures)
 
 same-length-7 : tie.Need-same-length-7
@@ -137,7 +137,7 @@ same-length-7 c = search needs
 returns-7 : tie.Need-returns-7
 unfolding lineFor numberOf
 returns-7 c =
-    let a = c .before .before .before .before .before .before .before .before .before .before .args in
+    let a = c .before .before .before .before .before .before .before .before .before .before .before .args in
     printed-as ShortOutput (a .input .now) (a .cursor) (a .called) (a .output .now) _ _ _ _ (c .before .before .before .before .enum-told7 .given .1) (c .before .before .put-refused3 .ensures)
 
 same-length-8 : tie.Need-same-length-8
@@ -146,7 +146,7 @@ same-length-8 c = search needs
 returns-8 : tie.Need-returns-8
 unfolding lineFor numberOf
 returns-8 c =
-    let a = c .before .before .before .before .before .before .before .before .before .before .args in
+    let a = c .before .before .before .before .before .before .before .before .before .before .before .args in
     printed-as FullTally (a .input .now) (a .cursor) (a .called) (a .output .now) _ _ _ _ (c .before .before .before .before .enum-told8 .given .1) (c .before .before .put-refused4 .ensures)
 
 pub put-line-spec : {M : Type 1} → statement M

@@ -4,9 +4,10 @@ use Prim.Native.Nat.{suc, _-_}
 use lib.ListN.{length}
 use mathlib.Core.Path.{_≡_, refl, _∙_}
 use native.Mathlib.Omega.{arith}
+use Rattle.bench.specs.Machine.{work}
 use Rattle.frame.specs.Bytes.{pick}
 use Rattle.report.proofs.Pieces.{Going, going, goes, falls, too-short, filled, ended}
-use Rattle.report.specs.Writing.{standing}
+use Rattle.report.specs.Writing.{stateAt}
 use borrow.Author.Needs.{needs}
 use Rattle.report.proofs.writing.write.Statement.{statement}
 use Rattle.report.proofs.writing.write.Tie as tie
@@ -15,10 +16,10 @@ abbrev Inv-loop : tie.InvT-loop
 Inv-loop input image₀ output₀ buffer₀ next₀ used₀ image output buffer next used =
     (length image ≡ length image₀)
     × ((length output ≡ length output₀)
-    × Going input buffer₀ (standing image₀ output₀ next₀) (next₀ .over) buffer used (standing image output next) (next .over))
+    × Going input buffer₀ (stateAt image₀ output₀ next₀) (next₀ .over) buffer used (stateAt image output next) (next .over))
 
 abbrev μ-loop : tie.MeasureT-loop
-μ-loop input image₀ output₀ buffer₀ next₀ used₀ image output buffer next used = pick (next .over) 0 (suc (length input - next .cursor))
+μ-loop input image₀ output₀ buffer₀ next₀ used₀ image output buffer next used = pick (next .over) 0 (suc (work input (stateAt image output next)))
 
 returns : tie.Need-returns Inv-loop μ-loop
 returns c = too-short _ _ _ _ (c .if1 .taken)

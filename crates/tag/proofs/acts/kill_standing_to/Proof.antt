@@ -1,6 +1,6 @@
 -- `kill_standing_to` meets its contract: the kill password stands at the start of Reserved.
 use borrow.Author.Needs.{needs}
-use Rattle.tag.specs.Image.{bankAt, view, killPassword}
+use Rattle.image.specs.Image.{bankAt, view, killPassword}
 use Rattle.tag.specs.Locks.{killStanding}
 use Rattle.tag.proofs.acts.kill_standing_to.Statement.{statement}
 use Rattle.tag.proofs.acts.kill_standing_to.Tie as tie

@@ -9,12 +9,12 @@ use Rattle.tag.proofs.parsing.aims_right.Tie as tie
 number-at-requires : tie.Need-number-at-requires
 number-at-requires c κs = search needs
 
-bank-in-requires : tie.Need-bank-in-requires
-bank-in-requires c κs = search needs
+bank-number-requires : tie.Need-bank-number-requires
+bank-number-requires c κs = search needs
 
 returns : tie.Need-returns
 unfolding aimRight
-returns c = simp (← (c .before .bank-in .ensures .0), lt-leb _ _ (c .if1 .taken))
+returns c = simp (← (c .before .bank-number .ensures .0), lt-leb _ _ (c .if1 .taken))
 
 returns-2 : tie.Need-returns-2
 unfolding aimRight countIn
@@ -31,7 +31,7 @@ returns-4 c =
     let past2 = c .before in
     let past1 = past2 .before in
     simp (
-      ← (past1 .before .bank-in .ensures .0),
+      ← (past1 .before .bank-number .ensures .0),
       ← (past1 .before .before .number-at .ensures .0),
       le-leb _ _ (past1 .if1 .left),
       le-leb _ _ (past2 .if2 .left),
@@ -40,4 +40,4 @@ returns-4 c =
 
 pub aims-right-spec : {M : Type 1} → statement M
 aims-right-spec =
-    tie.close (tie.spec number-at-requires bank-in-requires returns returns-2 returns-3 returns-4)
+    tie.close (tie.spec number-at-requires bank-number-requires returns returns-2 returns-3 returns-4)

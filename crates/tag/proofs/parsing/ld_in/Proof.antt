@@ -4,8 +4,8 @@ use Rattle.tag.specs.Commands.{bankIn, ldIn}
 use Rattle.tag.proofs.parsing.ld_in.Statement.{statement}
 use Rattle.tag.proofs.parsing.ld_in.Tie as tie
 
-bank-in-requires : tie.Need-bank-in-requires
-bank-in-requires c κs = search needs
+bank-number-requires : tie.Need-bank-number-requires
+bank-number-requires c κs = search needs
 
 mul-result : tie.Need-mul-result
 mul-result c = search needs
@@ -18,7 +18,7 @@ add-result c = search needs
 
 returns : tie.Need-returns
 unfolding ldIn bankIn
-returns c = simp (c .before .bank-in .ensures .0, c .number-at .ensures .0)
+returns c = simp (c .before .bank-number .ensures .0, c .number-at .ensures .0)
 
 pub ld-in-spec : {M : Type 1} → statement M
-ld-in-spec = tie.close (tie.spec bank-in-requires mul-result number-at-requires add-result returns)
+ld-in-spec = tie.close (tie.spec bank-number-requires mul-result number-at-requires add-result returns)

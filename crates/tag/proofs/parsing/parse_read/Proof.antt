@@ -22,8 +22,8 @@ returns-2 c = simp (not-holds (c .if2 .taken) (c .before .aims-right .ensures), 
 double-at-requires : tie.Need-double-at-requires
 double-at-requires c κs = search needs
 
-bank-in-requires : tie.Need-bank-in-requires
-bank-in-requires c κs = search needs
+bank-number-requires : tie.Need-bank-number-requires
+bank-number-requires c κs = search needs
 
 number-at-requires : tie.Need-number-at-requires
 number-at-requires c κs = search needs
@@ -41,7 +41,7 @@ returns-3 c =
       not-fails (past2 .if2 .left) (past2 .before .aims-right .ensures),
       pick-true,
       c .before .before .before .double-at .ensures .0,
-      c .before .before .bank-in .ensures .0,
+      c .before .before .bank-number .ensures .0,
       c .before .number-at .ensures .0,
       c .number-at2 .ensures .0,
     )
@@ -54,7 +54,7 @@ parse-read-spec =
     aims-right-requires
     returns-2
     double-at-requires
-    bank-in-requires
+    bank-number-requires
     number-at-requires
     number-at-requires-2
     returns-3)

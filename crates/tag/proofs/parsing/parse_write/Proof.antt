@@ -31,8 +31,8 @@ returns-2 c = simp (not-holds (c .if2 .taken) (c .before .aims-right .ensures), 
 double-at-requires : tie.Need-double-at-requires
 double-at-requires c κs = search needs
 
-bank-in-requires : tie.Need-bank-in-requires
-bank-in-requires c κs = search needs
+bank-number-requires : tie.Need-bank-number-requires
+bank-number-requires c κs = search needs
 
 number-at-requires-2 : tie.Need-number-at-requires-2
 number-at-requires-2 c κs = search needs
@@ -48,7 +48,7 @@ returns-3 c =
       not-fails (past2 .if2 .left) (past2 .before .aims-right .ensures),
       pick-true,
       c .before .before .double-at .ensures .0,
-      c .before .bank-in .ensures .0,
+      c .before .bank-number .ensures .0,
       c .number-at2 .ensures .0,
     )
 
@@ -63,6 +63,6 @@ parse-write-spec =
     aims-right-requires
     returns-2
     double-at-requires
-    bank-in-requires
+    bank-number-requires
     number-at-requires-2
     returns-3)

@@ -1,0 +1,4 @@
+pub mod Bounds
+pub mod Claims
+pub mod Image
+pub mod Spans

@@ -1,0 +1,110 @@
+// Whether an image is good (document 01, "The image"): one test after another, and the first that fails settles it.
+use crate::header::Bank;
+use crate::header::View;
+use crate::header::whole_view;
+ghost use mathlib.Core.Path.{_≡_};
+ghost use lib.Dec.{leb};
+ghost use Rattle.image.specs.Bounds.{SmallBank, Small};
+ghost use Rattle.image.specs.Image.{endOf, goodHeader, goodBanks, goodTag, good};
+
+// Whether a bank's end is at most `limit`. Both fields come from two bytes each, so the sum does not wrap.
+fn ends_by(b: Bank, limit: usize) -> bool
+    requires { ⌜ SmallBank b ⌝ }
+    ensures { λ r. ⌜ r ≡ leb (endOf b) limit ⌝ }
+{
+    if limit < b.offset + 2 * b.words {
+        return false;
+    }
+    true
+}
+
+fn is_good_header(v: View) -> bool
+    ensures { λ r. ⌜ r ≡ goodHeader v ⌝ }
+{
+    if v.size < 24 {
+        return false;
+    }
+    if v.format != 1 {
+        return false;
+    }
+    if v.total != v.size {
+        return false;
+    }
+    if 2048 < v.size {
+        return false;
+    }
+    true
+}
+
+fn is_good_banks(v: View) -> bool
+    requires { ⌜ Small v ⌝ }
+    ensures { λ r. ⌜ r ≡ goodBanks v ⌝ }
+{
+    let reserved = v.reserved;
+    let epc = v.epc;
+    let tid = v.tid;
+    let user = v.user;
+    if reserved.words != 4 {
+        return false;
+    }
+    if epc.words < 2 {
+        return false;
+    }
+    if 33 < epc.words {
+        return false;
+    }
+    if tid.words < 1 {
+        return false;
+    }
+    if 32 < tid.words {
+        return false;
+    }
+    if 512 < user.words {
+        return false;
+    }
+    if reserved.offset < 24 {
+        return false;
+    }
+    if !ends_by(reserved, epc.offset) {
+        return false;
+    }
+    if !ends_by(epc, tid.offset) {
+        return false;
+    }
+    if !ends_by(tid, user.offset) {
+        return false;
+    }
+    ends_by(user, v.total)
+}
+
+fn is_good_tag(v: View) -> bool
+    ensures { λ r. ⌜ r ≡ goodTag v ⌝ }
+{
+    let epc = v.epc;
+    if 1024 <= v.locks {
+        return false;
+    }
+    if 2 < v.state {
+        return false;
+    }
+    if epc.words < v.pc / 2048 + 2 {
+        return false;
+    }
+    true
+}
+
+pub fn is_good(image: &[u8]) -> bool
+    ensures { λ r. ⌜ r ≡ good (now (image .entry)) ⌝ }
+{
+    if image.len() < 24 {
+        return false;
+    }
+    let v = whole_view(image);
+    if !is_good_header(v) {
+        return false;
+    }
+    if !is_good_banks(v) {
+        return false;
+    }
+    is_good_tag(v)
+}

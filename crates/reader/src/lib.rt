@@ -1,0 +1,3 @@
+// The reader's own state: where it stands in the input, and what it has counted (document 01, "Answer numbers of a call").
+pub mod state;
+pub mod tally;

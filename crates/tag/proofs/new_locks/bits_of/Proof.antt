@@ -1,0 +1,48 @@
+-- `bits_of` meets its contract: five pairs make at most ten bits.
+use borrow.Author.Needs.{needs}
+use mathlib.Core.Path.{refl}
+use Rattle.tag.specs.Locks.{bitsOf}
+use Rattle.tag.proofs.new_locks.bits_of.Statement.{statement}
+use Rattle.tag.proofs.new_locks.bits_of.Tie as tie
+
+mul-result : tie.Need-mul-result
+mul-result c = search needs
+
+mul-result-2 : tie.Need-mul-result-2
+mul-result-2 c = search needs
+
+add-result : tie.Need-add-result
+add-result c = search needs
+
+mul-result-3 : tie.Need-mul-result-3
+mul-result-3 c = search needs
+
+add-result-2 : tie.Need-add-result-2
+add-result-2 c = search needs
+
+mul-result-4 : tie.Need-mul-result-4
+mul-result-4 c = search needs
+
+add-result-3 : tie.Need-add-result-3
+add-result-3 c = search needs
+
+add-result-4 : tie.Need-add-result-4
+add-result-4 c = search needs
+
+returns : tie.Need-returns
+unfolding bitsOf
+returns c = refl
+
+pub bits-of-spec : {M : Type 1} → statement M
+bits-of-spec =
+    tie.close
+    (tie.spec
+    mul-result
+    mul-result-2
+    add-result
+    mul-result-3
+    add-result-2
+    mul-result-4
+    add-result-3
+    add-result-4
+    returns)
