@@ -34,9 +34,10 @@ int main(void)
             for (uint64_t i = 0; i < state[POLDRISK_LENGTH]; i++)
                 printf("%02X%c", output[i], i + 1 < state[POLDRISK_LENGTH] ? ' ' : '\n');
     } while (number == POLDRISK_ANSWERED || number == POLDRISK_BYTE_DROPPED);
-    printf("GOOD %llu ERROR %llu DROPPED %llu LEFT %llu\n",
-           (unsigned long long)state[POLDRISK_GOOD], (unsigned long long)state[POLDRISK_ERROR],
-           (unsigned long long)state[POLDRISK_DROPPED],
-           (unsigned long long)(sizeof input - state[POLDRISK_CURSOR]));
+    printf("GOOD %llu ERROR %llu DROPPED", (unsigned long long)state[POLDRISK_GOOD],
+           (unsigned long long)state[POLDRISK_ERROR]);
+    for (int i = POLDRISK_DROPPED_NO_HEADER; i <= POLDRISK_DROPPED_WRONG_END; i++)
+        printf(" %llu", (unsigned long long)state[i]);
+    printf(" LEFT %llu\n", (unsigned long long)(sizeof input - state[POLDRISK_CURSOR]));
     return number == POLDRISK_AT_END ? 0 : 1;
 }

@@ -1,6 +1,7 @@
-//! An independent implementation of the scope document ("Bench reader and tag: exact rules"),
-//! written from that paper alone. It shares no code and no definition with the proved bench, so
-//! a mistake would have to be made twice to stay unseen. Quoted lines are the paper's.
+//! An independent implementation of the scope document ("Bench reader and tag: exact rules") and of
+//! the later change "Why was the byte dropped?", written from these papers alone. It shares no code
+//! and no definition with the proved bench, so a mistake would have to be made twice to stay
+//! unseen. Quoted lines are the papers'.
 
 /// Declares the counted branches: one name for each way through the rules.
 macro_rules! branches {
@@ -17,15 +18,16 @@ macro_rules! branches {
 branches! {
     // the tests 10 to 13
     CURSOR_PAST_END CURSOR_WITHIN IMAGE_BAD IMAGE_GOOD OUTPUT_SHORT OUTPUT_ENOUGH
-    GOOD_FULL ERROR_FULL DROPPED_FULL TALLY_FREE
+    GOOD_FULL ERROR_FULL NO_HEADER_FULL WRONG_TYPE_FULL TOO_LONG_FULL WRONG_CHECK_FULL
+    WRONG_END_FULL TALLY_FREE
     // the rules of a good image
     IMAGE_SHORTER_THAN_HEADER FORMAT_WRONG TOTAL_NOT_LENGTH TOTAL_ABOVE_2048
     RESERVED_WORDS_WRONG EPC_WORDS_FEW EPC_WORDS_MANY TID_WORDS_FEW TID_WORDS_MANY
     USER_WORDS_MANY RESERVED_OFFSET_LOW EPC_OFFSET_LOW TID_OFFSET_LOW USER_OFFSET_LOW
     LAST_END_HIGH LOCK_UPPER_BITS STATE_UNKNOWN EPC_LENGTH_HIGH
     // finding
-    NOTHING_LEFT NOT_HEADER TYPE_WRONG PL_ABOVE_80 ONLY_HEADER TYPE_BUT_NO_PL FRAME_CUT
-    CHECK_WRONG END_WRONG ACCEPTED
+    NOTHING_LEFT NO_HEADER TYPE_RESPONSE TYPE_NOTIFICATION TYPE_UNKNOWN ONLY_HEADER
+    TYPE_BUT_NO_PL PL_81 PL_ABOVE_81 FRAME_CUT CHECK_WRONG CHECK_AND_END_WRONG END_WRONG ACCEPTED
     // lock pairs and passwords
     PAIR_FREE PAIR_PERMANENTLY_FREE PAIR_SECURED_YES PAIR_SECURED_NO PAIR_NEVER
     SECURED_BOTH_ZERO SECURED_EQUAL OPEN_ZERO_GIVEN WRONG_STORED_ZERO WRONG_STORED_NONZERO
@@ -96,7 +98,7 @@ const EPC: usize = 1;
 const TID: usize = 2;
 const USER: usize = 3;
 
-/// What one bench holds between calls, and the length that its last call reported.
+/// What one bench holds between calls, and the length and the reason that its last call reported.
 #[derive(Clone, Debug, PartialEq, Eq)]
 pub struct Bench {
     pub image: Vec<u8>,
@@ -104,8 +106,21 @@ pub struct Bench {
     pub cursor: u64,
     pub good: u64,
     pub error: u64,
-    pub dropped: u64,
+    /// "The tally's one dropped count becomes five": one for each reason, in their order.
+    pub dropped: [u64; 5],
     pub length: u64,
+    /// The number of the reason under answer 3, else 0.
+    pub reason: u64,
+}
+
+/// "1 no header, 2 wrong type, 3 too long, 4 wrong check, 5 wrong end"
+#[derive(Clone, Copy, Debug, PartialEq, Eq)]
+enum Reason {
+    NoHeader = 1,
+    WrongType = 2,
+    TooLong = 3,
+    WrongCheck = 4,
+    WrongEnd = 5,
 }
 
 impl Bench {
@@ -113,6 +128,8 @@ impl Bench {
     pub fn call(&mut self, input: &[u8]) -> u64 {
         // "The call reports the length written, 0 in all other cases."
         self.length = 0;
+        // "Answer 3 now carries a reason", and no other answer does
+        self.reason = 0;
         // "Tests in the order 10, 11, 12, 13, then the finding rules"
         if self.cursor > input.len() as u64 {
             hit!(CURSOR_PAST_END);
@@ -137,10 +154,8 @@ impl Bench {
         match find(rest) {
             Found::Nothing => 1,
             Found::Waiting => 2,
-            Found::Dropped => {
-                // "a byte dropped | cursor plus 1"
-                self.cursor += 1;
-                self.dropped += 1;
+            Found::Dropped(reason) => {
+                self.drop_byte(reason);
                 3
             }
             Found::Accepted(pl) => {
@@ -152,20 +167,42 @@ impl Bench {
         }
     }
 
+    /// The seven counts: good answers, error answers, and the bytes dropped for each reason.
+    pub fn counts(&self) -> [u64; 7] {
+        let [no_header, wrong_type, too_long, wrong_check, wrong_end] = self.dropped;
+        [
+            self.good,
+            self.error,
+            no_header,
+            wrong_type,
+            too_long,
+            wrong_check,
+            wrong_end,
+        ]
+    }
+
+    /// "any tally count at 4,294,967,295", "each under the limit of answer 13"
     fn is_tally_full(&self) -> bool {
-        if self.good == FULL_COUNT {
-            hit!(GOOD_FULL);
-            return true;
+        let Some(full) = self.counts().iter().position(|c| *c == FULL_COUNT) else {
+            return false;
+        };
+        match full {
+            0 => hit!(GOOD_FULL),
+            1 => hit!(ERROR_FULL),
+            2 => hit!(NO_HEADER_FULL),
+            3 => hit!(WRONG_TYPE_FULL),
+            4 => hit!(TOO_LONG_FULL),
+            5 => hit!(WRONG_CHECK_FULL),
+            _ => hit!(WRONG_END_FULL),
         }
-        if self.error == FULL_COUNT {
-            hit!(ERROR_FULL);
-            return true;
-        }
-        if self.dropped == FULL_COUNT {
-            hit!(DROPPED_FULL);
-            return true;
-        }
-        false
+        true
+    }
+
+    /// "a byte dropped | cursor plus 1", and the count of its reason is raised.
+    fn drop_byte(&mut self, reason: Reason) {
+        self.cursor += 1;
+        self.reason = reason as u64;
+        self.dropped[reason as usize - 1] += 1;
     }
 
     /// Carries out an accepted command and writes its answer.
@@ -322,12 +359,13 @@ fn are_offsets_good(image: &[u8]) -> bool {
 enum Found {
     Nothing,
     Waiting,
-    Dropped,
+    Dropped(Reason),
     /// A whole command with this many parameter bytes.
     Accepted(usize),
 }
 
-/// "Finding a command", on what is left from the cursor.
+/// "Finding a command", on what is left from the cursor. The rules are tried in their order, so the
+/// first that drops gives the reason.
 fn find(rest: &[u8]) -> Found {
     // "1. nothing left: answer 1"
     if rest.is_empty() {
@@ -336,13 +374,17 @@ fn find(rest: &[u8]) -> Found {
     }
     // "2. first byte not BB: drop it"
     if rest[0] != 0xBB {
-        hit!(NOT_HEADER);
-        return Found::Dropped;
+        hit!(NO_HEADER);
+        return Found::Dropped(Reason::NoHeader);
     }
     // "3. second byte there and not 00: drop the BB"
     if rest.len() >= 2 && rest[1] != 0 {
-        hit!(TYPE_WRONG);
-        return Found::Dropped;
+        match rest[1] {
+            1 => hit!(TYPE_RESPONSE),
+            2 => hit!(TYPE_NOTIFICATION),
+            _ => hit!(TYPE_UNKNOWN),
+        }
+        return Found::Dropped(Reason::WrongType);
     }
     // A frame of which PL is not there yet is "not all there" (rule 5).
     if rest.len() < 5 {
@@ -356,8 +398,12 @@ fn find(rest: &[u8]) -> Found {
     // "4. five bytes there and PL above 80: drop the BB"
     let pl = double(rest, 3);
     if pl > MOST_PARAMETERS {
-        hit!(PL_ABOVE_80);
-        return Found::Dropped;
+        if pl == MOST_PARAMETERS + 1 {
+            hit!(PL_81);
+        } else {
+            hit!(PL_ABOVE_81);
+        }
+        return Found::Dropped(Reason::TooLong);
     }
     // "5. frame not all there: answer 2"
     if rest.len() < 7 + pl {
@@ -365,17 +411,31 @@ fn find(rest: &[u8]) -> Found {
         return Found::Waiting;
     }
     // "6. check wrong, or last byte not 7E: drop the BB"
-    if check(&rest[1..5 + pl]) != rest[5 + pl] {
-        hit!(CHECK_WRONG);
-        return Found::Dropped;
-    }
-    if rest[6 + pl] != 0x7E {
-        hit!(END_WRONG);
-        return Found::Dropped;
+    if let Some(reason) = wrong_at_the_end(&rest[..7 + pl]) {
+        return Found::Dropped(reason);
     }
     // "7. else the frame is accepted"
     hit!(ACCEPTED);
     Found::Accepted(pl)
+}
+
+/// Rule 6 on a whole frame, "check before end": with both wrong the reason is the check.
+fn wrong_at_the_end(frame: &[u8]) -> Option<Reason> {
+    let at = frame.len() - 2;
+    let end_wrong = frame[at + 1] != 0x7E;
+    if check(&frame[1..at]) != frame[at] {
+        if end_wrong {
+            hit!(CHECK_AND_END_WRONG);
+        } else {
+            hit!(CHECK_WRONG);
+        }
+        return Some(Reason::WrongCheck);
+    }
+    if end_wrong {
+        hit!(END_WRONG);
+        return Some(Reason::WrongEnd);
+    }
+    None
 }
 
 /// "Check is the sum of all bytes from type to the last parameter, modulo 256."
@@ -846,3 +906,6 @@ fn kill(image: &mut [u8], parameters: &[u8]) -> Answer {
     image[22] = 1;
     done(0x65, image)
 }
+
+#[cfg(test)]
+mod tests;

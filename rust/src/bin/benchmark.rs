@@ -6,9 +6,9 @@
 //! are the times, the ratio proved to model, and how time grows as the input doubles, each the
 //! median over the rounds. The model's branch counters are compiled out here.
 
-use poldrisk::call_packed;
 use poldrisk::generator::{double, frame, offset_place, sample_image, set_double, Random};
 use poldrisk::model::Bench;
+use poldrisk::{call_packed, packed, CURSOR, DROPPED, STATE_LENGTH};
 use std::hint::black_box;
 use std::time::Instant;
 
@@ -21,8 +21,8 @@ struct Workload {
     name: &'static str,
     image: Vec<u8>,
     input: fn(usize) -> Vec<u8>,
-    /// Whether every call but the last is to accept a command (else: to drop a byte).
-    accepts: bool,
+    /// For which reasons its calls drop bytes; none where every call but the last accepts a command.
+    drops: [bool; 5],
 }
 
 /// The largest tag: 33 EPC words with L at 31, 32 TID words and 512 User words.
@@ -65,6 +65,12 @@ fn repeated(round: &[Vec<u8>], size: usize) -> Vec<u8> {
     }
     input
 }
+
+/// The reasons of a workload: no byte is dropped, each has no header, and some are false headers
+/// with a wrong check.
+const ACCEPTS: [bool; 5] = [false; 5];
+const NO_HEADER: [bool; 5] = [true, false, false, false, false];
+const WRONG_CHECK: [bool; 5] = [true, false, false, true, false];
 
 const RIGHT: [u8; 4] = [0x00, 0x00, 0xFF, 0xFF];
 
@@ -110,8 +116,9 @@ fn false_headers(size: usize) -> Vec<u8> {
         .cycle()
         .take(size)
         .collect();
-    // the last bytes are noise, so that no false header waits there for more
-    let noise_from = size.saturating_sub(87);
+    // the last bytes are noise, so that no false header waits there for more; it starts where a
+    // header would, so that none is cut and dropped for another reason
+    let noise_from = size.saturating_sub(87) / 5 * 5;
     input[noise_from..].fill(0x41);
     input
 }
@@ -126,10 +133,10 @@ fn longest(size: usize) -> Vec<u8> {
     repeated(&round, size)
 }
 
-fn run_proved(image: &[u8], input: &[u8]) -> (f64, [u64; 5]) {
+fn run_proved(image: &[u8], input: &[u8]) -> (f64, [u64; STATE_LENGTH]) {
     let mut image = image.to_vec();
     let mut output = vec![0; 136];
-    let mut state = [0; 5];
+    let mut state = [0; STATE_LENGTH];
     let started = Instant::now();
     loop {
         let number = call_packed(black_box(input), &mut image, &mut output, &mut state);
@@ -142,15 +149,16 @@ fn run_proved(image: &[u8], input: &[u8]) -> (f64, [u64; 5]) {
     (time, state)
 }
 
-fn run_model(image: &[u8], input: &[u8]) -> (f64, [u64; 5]) {
+fn run_model(image: &[u8], input: &[u8]) -> (f64, [u64; STATE_LENGTH]) {
     let mut bench = Bench {
         image: image.to_vec(),
         output: vec![0; 136],
         cursor: 0,
         good: 0,
         error: 0,
-        dropped: 0,
+        dropped: [0; 5],
         length: 0,
+        reason: 0,
     };
     let started = Instant::now();
     loop {
@@ -160,13 +168,7 @@ fn run_model(image: &[u8], input: &[u8]) -> (f64, [u64; 5]) {
         }
     }
     let time = started.elapsed().as_secs_f64();
-    let state = [
-        bench.cursor,
-        bench.good,
-        bench.error,
-        bench.dropped,
-        bench.length,
-    ];
+    let state = packed(bench.cursor, bench.counts(), bench.length, bench.reason);
     black_box(&bench);
     (time, state)
 }
@@ -182,9 +184,10 @@ fn turn(workload: &Workload, input: &[u8]) -> (f64, f64) {
     let (model, same) = run_model(&workload.image, input);
     // a workload that does something else than its name says would be timed for nothing
     assert_eq!(state, same);
-    assert_eq!(state[0], input.len() as u64);
-    assert_eq!(state[3] == 0, workload.accepts);
-    assert_eq!(state[1] + state[2] > 0, workload.accepts);
+    let [_, good, error, ..] = state;
+    assert_eq!(state[CURSOR], input.len() as u64);
+    assert!(state[DROPPED].iter().map(|c| *c > 0).eq(workload.drops));
+    assert_eq!(good + error > 0, workload.drops == ACCEPTS);
     (proved * 1e6, model * 1e6)
 }
 
@@ -250,31 +253,31 @@ fn main() {
             name: "noise without BB",
             image: sample_image(),
             input: noise,
-            accepts: false,
+            drops: NO_HEADER,
         },
         Workload {
             name: "all five commands",
             image: sample_image(),
             input: mix,
-            accepts: true,
+            drops: ACCEPTS,
         },
         Workload {
             name: "all but the inventory, so without CRC",
             image: sample_image(),
             input: mix_without_crc,
-            accepts: true,
+            drops: ACCEPTS,
         },
         Workload {
             name: "false headers, each with a whole wrong frame behind it",
             image: sample_image(),
             input: false_headers,
-            accepts: false,
+            drops: WRONG_CHECK,
         },
         Workload {
             name: "longest Reads and Writes",
             image: large_image(),
             input: longest,
-            accepts: true,
+            drops: ACCEPTS,
         },
     ];
     let mut met = true;

@@ -1,5 +1,5 @@
 //! Feeds the same random calls to the proved bench and to the independent model, and compares
-//! number, length, whole image, whole output, cursor and counts after each call.
+//! number, length, reason, whole image, whole output, cursor and all seven counts after each call.
 //!
 //!     compare [CALLS] [SEED] [TRIAL]
 //!
@@ -8,12 +8,12 @@
 //! was never taken counts as failed: it would have compared less than it says.
 
 use poldrisk::arguments::Arguments;
-use poldrisk::generator::{self, Random};
+use poldrisk::generator::{self, Random, LIMIT};
 use poldrisk::model::{self, Bench};
-use poldrisk::{call_packed, COUNT_OUT_OF_RANGE, STATE_LENGTH_WRONG};
+use poldrisk::{
+    call_packed, packed, COUNT_OUT_OF_RANGE, CURSOR, REASON, STATE_LENGTH, STATE_LENGTH_WRONG,
+};
 use std::process::exit;
-
-const LIMIT: u64 = 4_294_967_295;
 
 /// What the proved bench holds: the slices of its C interface.
 #[derive(Clone)]
@@ -28,13 +28,7 @@ impl Proved {
         Proved {
             image: bench.image.clone(),
             output: bench.output.clone(),
-            state: vec![
-                bench.cursor,
-                bench.good,
-                bench.error,
-                bench.dropped,
-                bench.length,
-            ],
+            state: state_of(bench).to_vec(),
         }
     }
 
@@ -43,22 +37,18 @@ impl Proved {
     }
 
     fn is(&self, bench: &Bench) -> bool {
-        self.image == bench.image
-            && self.output == bench.output
-            && self.state
-                == [
-                    bench.cursor,
-                    bench.good,
-                    bench.error,
-                    bench.dropped,
-                    bench.length,
-                ]
+        self.image == bench.image && self.output == bench.output && self.state == state_of(bench)
     }
+}
+
+/// The model's numbers as the C interface has them.
+fn state_of(bench: &Bench) -> [u64; STATE_LENGTH] {
+    packed(bench.cursor, bench.counts(), bench.length, bench.reason)
 }
 
 /// The model behind the two refusals of the C interface.
 fn model_call(bench: &mut Bench, input: &[u8]) -> u64 {
-    if bench.good > LIMIT || bench.error > LIMIT || bench.dropped > LIMIT {
+    if bench.counts().iter().any(|c| *c > LIMIT) {
         return COUNT_OUT_OF_RANGE;
     }
     bench.call(input)
@@ -78,19 +68,17 @@ fn start(random: &mut Random) -> Bench {
     } else {
         room
     };
-    let mut counts = [0; 3].map(|_: u64| random.number() % 1000);
-    if random.percent(10) {
-        let near_full = [LIMIT - 2, LIMIT - 1, LIMIT, LIMIT + 1, u64::MAX];
-        counts[random.below(3)] = random.pick(&near_full);
-    }
+    let [good, error, dropped @ ..] = generator::counts(random);
     Bench {
         image,
         output: random.bytes(room),
         cursor: 0,
-        good: counts[0],
-        error: counts[1],
-        dropped: counts[2],
+        good,
+        error,
+        dropped,
+        // what stands there before a call is not looked at
         length: random.number(),
+        reason: random.pick(&[0, 1, 5, 6, u64::MAX]),
     }
 }
 
@@ -104,19 +92,46 @@ fn start_cursor(random: &mut Random, input: &[u8]) -> u64 {
     }
 }
 
-fn report(seed: u64, trial: u64, call: u64, input: &[u8], numbers: (u64, u64)) -> ! {
-    println!("DIFFERENT at call {call} of trial {trial}, seed {seed}");
-    println!(
-        "answer of the proved bench {}, of the model {}",
-        numbers.0, numbers.1
-    );
-    println!("input {input:02X?}");
-    println!("replay: compare 1 {seed} {trial}");
-    exit(1)
+/// How often each answer number came, and each reason.
+#[derive(Default)]
+struct Seen {
+    answers: [u64; 22],
+    reasons: [u64; 6],
+}
+
+impl Seen {
+    fn add(&mut self, number: u64, state: &[u64]) {
+        self.answers[number as usize] += 1;
+        if number == 3 {
+            self.reasons[state[REASON] as usize] += 1;
+        }
+    }
+}
+
+/// Walks an input to its end, and one call beyond. Gives the number of calls made, or none where the
+/// two differ.
+fn walk(proved: &mut Proved, bench: &mut Bench, input: &[u8], seen: &mut Seen) -> Option<u64> {
+    let mut calls = 0;
+    for _ in 0..input.len() + 2 {
+        let got = proved.call(input);
+        let expected = model_call(bench, input);
+        calls += 1;
+        if got != expected || !proved.is(bench) {
+            println!("DIFFERENT at call {calls} on input {input:02X?}");
+            println!("proved bench: answer {got}, state {:?}", proved.state);
+            println!("model: answer {expected}, state {:?}", state_of(bench));
+            return None;
+        }
+        seen.add(got, &proved.state);
+        if got != 0 && got != 3 {
+            break;
+        }
+    }
+    Some(calls)
 }
 
 /// One trial: several inputs on one image. Gives the number of calls made.
-fn trial(seed: u64, number: u64, answers: &mut [u64; 22]) -> u64 {
+fn trial(seed: u64, number: u64, seen: &mut Seen) -> u64 {
     let mut random = Random::new(seed ^ number.wrapping_mul(0xD129_0C6B_4A1E_35F7));
     let mut bench = start(&mut random);
     let mut proved = Proved::of(&bench);
@@ -124,20 +139,12 @@ fn trial(seed: u64, number: u64, answers: &mut [u64; 22]) -> u64 {
     for _ in 0..random.between(1, 12) {
         let input = generator::input(&mut random, &bench.image);
         bench.cursor = start_cursor(&mut random, &input);
-        proved.state[0] = bench.cursor;
-        // every input is walked to its end, and one call beyond
-        for _ in 0..input.len() + 2 {
-            let got = proved.call(&input);
-            let expected = model_call(&mut bench, &input);
-            calls += 1;
-            if got != expected || !proved.is(&bench) {
-                report(seed, number, calls, &input, (got, expected));
-            }
-            answers[got as usize] += 1;
-            if got != 0 && got != 3 {
-                break;
-            }
-        }
+        proved.state[CURSOR] = bench.cursor;
+        let Some(made) = walk(&mut proved, &mut bench, &input, seen) else {
+            println!("trial {number}, seed {seed}; replay: compare 1 {seed} {number}");
+            exit(1);
+        };
+        calls += made;
         if random.percent(10) {
             wrong_state_length(&mut random, &proved, &input);
         }
@@ -150,10 +157,10 @@ fn trial(seed: u64, number: u64, answers: &mut [u64; 22]) -> u64 {
     calls
 }
 
-/// A state that does not have five numbers is refused, and nothing changes.
+/// A state that does not have ten numbers is refused, and nothing changes.
 fn wrong_state_length(random: &mut Random, proved: &Proved, input: &[u8]) {
     let mut other = proved.clone();
-    other.state.resize(random.pick(&[0, 1, 4, 6, 9]), 7);
+    other.state.resize(random.pick(&[0, 1, 5, 9, 11, 20]), 7);
     let before = other.clone();
     let got = other.call(input);
     let same =
@@ -170,9 +177,9 @@ fn main() {
         seed,
         trial: only,
     } = Arguments::read();
-    let mut answers = [0; 22];
+    let mut seen = Seen::default();
     if let Some(only) = only {
-        let calls = trial(seed, only, &mut answers);
+        let calls = trial(seed, only, &mut seen);
         println!("trial {only} of seed {seed}: {calls} calls, no difference");
         return;
     }
@@ -180,16 +187,18 @@ fn main() {
     let mut calls = 0;
     let mut trials = 0;
     while calls < wanted {
-        calls += trial(seed, trials, &mut answers);
+        calls += trial(seed, trials, &mut seen);
         trials += 1;
     }
-    finish(seed, trials, calls, &answers);
+    finish(seed, trials, calls, &seen);
 }
 
-fn finish(seed: u64, trials: u64, calls: u64, answers: &[u64; 22]) {
+fn finish(seed: u64, trials: u64, calls: u64, seen: &Seen) {
     println!("{calls} calls in {trials} trials, seed {seed}: no difference");
-    for (number, count) in answers.iter().enumerate().filter(|(_, c)| **c > 0) {
-        println!("  answer {number:2}: {count}");
+    for (name, counts) in [("answer", &seen.answers[..]), ("reason", &seen.reasons[..])] {
+        for (number, count) in counts.iter().enumerate().filter(|(_, c)| **c > 0) {
+            println!("  {name} {number:2}: {count}");
+        }
     }
     let counts = model::branch_counts();
     let named = || model::BRANCHES.iter().zip(&counts);

@@ -1,6 +1,6 @@
 //! The secrecy demand, tried on the proved bench alone: two good images that differ only in the
-//! eight password bytes get the same calls, and every answer, length, output, cursor and count
-//! is compared.
+//! eight password bytes get the same calls, and every answer, reason, length, output, cursor and
+//! each of the seven counts is compared.
 //!
 //!     secrecy [CALLS] [SEED]
 //!
@@ -10,8 +10,8 @@
 //! these runs must show a difference: else the test could not fail, and would show nothing.
 
 use poldrisk::arguments::Arguments;
-use poldrisk::call_packed;
 use poldrisk::generator::{self, double, frame, offset_place, Random};
+use poldrisk::{call_packed, packed, CURSOR, STATE_LENGTH};
 use std::process::exit;
 
 /// Which premise a run leaves out.
@@ -33,7 +33,7 @@ enum Dropped {
 struct Run {
     image: Vec<u8>,
     output: Vec<u8>,
-    state: [u64; 5],
+    state: [u64; STATE_LENGTH],
 }
 
 impl Run {
@@ -84,13 +84,7 @@ fn pair(random: &mut Random, dropped: Dropped) -> (Run, Run) {
     let first = Run {
         image,
         output: random.bytes(room),
-        state: [
-            0,
-            random.number() % 9,
-            random.number() % 9,
-            random.number() % 9,
-            0,
-        ],
+        state: packed(0, generator::counts(random), 0, 0),
     };
     let mut runs = (first.clone(), first);
     for run in [&mut runs.0, &mut runs.1] {
@@ -187,8 +181,8 @@ fn trial(random: &mut Random, dropped: Dropped) -> (u64, bool) {
     for _ in 0..random.between(1, 10) {
         let input = allowed_input(random, &runs, &start, dropped);
         let cursor = random.pick(&[0, 0, 0, 0, 0, 0, 1, input.len() as u64 + 1]);
-        runs.0.state[0] = cursor;
-        runs.1.state[0] = cursor;
+        runs.0.state[CURSOR] = cursor;
+        runs.1.state[CURSOR] = cursor;
         for _ in 0..input.len() + 2 {
             let numbers = (runs.0.call(&input), runs.1.call(&input));
             calls += 1;
@@ -203,8 +197,8 @@ fn trial(random: &mut Random, dropped: Dropped) -> (u64, bool) {
     (calls, true)
 }
 
-/// Same output, cursor, counts and length; the images equal elsewhere; the password bytes as they
-/// were. Where the images differ elsewhere from the start, that part is not asked.
+/// Same output, cursor, counts, length and reason; the images equal elsewhere; the password bytes as
+/// they were. Where the images differ elsewhere from the start, that part is not asked.
 fn agree(runs: &(Run, Run), before: &(Run, Run), dropped: Dropped) -> bool {
     let kept = |run: &Run, old: &Run| {
         run.image[passwords_place(&run.image)] == old.image[passwords_place(&old.image)]
