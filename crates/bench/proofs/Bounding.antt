@@ -12,7 +12,11 @@ use Rattle.bench.proofs.Answering.{framed}
 use Rattle.bench.proofs.Steps.{Ready, step-cases, ready-cases}
 use Rattle.bench.specs.Claims.{answerOf, count, takes, WorkFalls, Bound}
 use Rattle.reader.specs.Readers.{freshReader}
-use Rattle.reader.specs.Tallies.{full, limit, raised}
+use Rattle.frame.specs.Frames.{sum}
+use Rattle.frame.specs.declared.finding.Reason.{Reason}
+use Rattle.frame.specs.declared.finding.Reason.the-variants.{NoHeader, WrongType, TooLong, WrongCheck, WrongEnd}
+use Rattle.reader.proofs.Tallies.{few-counts, raised-most}
+use Rattle.reader.specs.Tallies.{countsOf, full, limit, withDropped}
 use Rattle.bench.specs.Machine.{State, stateOf, call, Step, numberOf, unchanged, dropped, answered, counted, actIn, inputOf, restOf, step, work, run, after}
 use Rattle.reader.specs.declared.tally.Tally.{Tally}
 use Rattle.frame.proofs.Accepting.{Accepted}
@@ -25,26 +29,24 @@ use Rattle.tag.specs.Answers as Answers
 use Rattle.image.specs.Image.{good}
 use Rattle.tag.specs.declared.commands.Act.{Act}
 
--- no count is above n
-few-not-full : (t : Tally) (n : ℕ) → t .good + t .error + t .dropped ≤ n → n < limit → full t ≡ false
-unfolding full
-few-not-full t n h small =
-    simp (
-      ne-eqb (t .good) limit (λ e. omega arith),
-      ne-eqb (t .error) limit (λ e. omega arith),
-      ne-eqb (t .dropped) limit (λ e. omega arith),
-    )
+-- all counts together: an answer or a drop adds one at most
+total : Tally → ℕ
+total t = sum (countsOf t)
 
-raised-most : (n : ℕ) → raised n ≤ n + 1
-unfolding raised
-raised-most n = by-test (λ (k : ℕ). k ≤ n + 1) (eqb n limit) (λ h. omega arith) (λ h. omega arith)
-
-counted-most : (t : Tally) (act : Act) → counted act t .good + counted act t .error + counted act t .dropped ≤ t .good + t .error + t .dropped + 1
-unfolding counted
+counted-most : (t : Tally) (act : Act) → total (counted act t) ≤ total t + 1
+unfolding total counted sum
 counted-most t act =
-    by-test (λ (u : Tally). u .good + u .error + u .dropped ≤ t .good + t .error + t .dropped + 1) (Answers.isError act)
+    by-test (λ (u : Tally). sum (countsOf u) ≤ sum (countsOf t) + 1) (Answers.isError act)
     (λ h. omega (arith, raised-most (t .error)))
     (λ h. omega (arith, raised-most (t .good)))
+
+dropped-most : (t : Tally) (r : Reason) → total (withDropped r t) ≤ total t + 1
+unfolding total withDropped sum
+dropped-most t NoHeader = omega (arith, raised-most (t .header))
+dropped-most t WrongType = omega (arith, raised-most (t .kind))
+dropped-most t TooLong = omega (arith, raised-most (t .long))
+dropped-most t WrongCheck = omega (arith, raised-most (t .check))
+dropped-most t WrongEnd = omega (arith, raised-most (t .end))
 
 -- every answer 0 or 3 lowers the work that is left
 pub work-falls : WorkFalls
@@ -52,7 +54,7 @@ unfolding work takes unchanged dropped answered numberOf frameLength restOf inpu
 work-falls input s =
     step-cases (call input) s (λ (x : Step). takes x ≡ true → work input (x .next) < work input s)
     (λ o m n t. absurd (true≢false (sym t ∙ simp (ne-eqb (numberOf o) 0 m, ne-eqb (numberOf o) 3 n))))
-    (λ r some t. omega (arith, length-drop (s .reader .cursor) input))
+    (λ r why found some t. omega (arith, length-drop (s .reader .cursor) input))
     (λ r pl a t. omega (arith, a .fits, length-drop (s .reader .cursor) input))
 
 module _ (input : List ℕ) (small : length input < limit) where
@@ -61,16 +63,16 @@ module _ (input : List ℕ) (small : length input < limit) where
     not-past : s .reader .cursor ≤ length input
     image-good : good (s .image) ≡ true
     room : 136 ≤ length (s .output)
-    few : s .reader .tally .good + s .reader .tally .error + s .reader .tally .dropped ≤ s .reader .cursor
+    few : total (s .reader .tally) ≤ s .reader .cursor
 
   ready : (s : State) → Fit s → Ready (call input) s
-  unfolding inputOf
+  unfolding inputOf total full
   ready s f =
       record {
         not-past = f .not-past;
         image-good = f .image-good;
         room = f .room;
-        not-full = few-not-full (s .reader .tally) (s .reader .cursor) (f .few) (omega (arith, f .not-past));
+        not-full = few-counts (countsOf (s .reader .tally)) (s .reader .cursor) (f .few) (omega (arith, f .not-past));
       }
 
   -- a step ends the run, or takes bytes and leaves a state in which all that holds again
@@ -81,9 +83,9 @@ module _ (input : List ℕ) (small : length input < limit) where
   Ends : Step → Type 0
   Ends x = (numberOf (x .outcome) ≡ 1) ⊎ (numberOf (x .outcome) ≡ 2)
 
-  drop-taken : (s : State) → Fit s → 1 ≤ length (restOf (call input) s) → Taken s (dropped s)
+  drop-taken : (s : State) → Fit s → (r : Reason) → 1 ≤ length (restOf (call input) s) → Taken s (dropped s r)
   unfolding dropped takes numberOf restOf inputOf
-  drop-taken s f some =
+  drop-taken s f r some =
       record {
         taken = refl;
         fit =
@@ -91,7 +93,7 @@ module _ (input : List ℕ) (small : length input < limit) where
               not-past = omega (arith, length-drop (s .reader .cursor) input);
               image-good = f .image-good;
               room = f .room;
-              few = omega (arith, raised-most (s .reader .tally .dropped), f .few);
+              few = omega (arith, dropped-most (s .reader .tally) r, f .few);
             };
       }
 
@@ -116,7 +118,7 @@ module _ (input : List ℕ) (small : length input < limit) where
   unfolding Ends unchanged numberOf
   next-call s f =
       ready-cases (call input) s (λ (x : Step). Ends x ⊎ Taken s x) (ready s f) (inl (inl refl)) (inl (inr refl))
-      (λ some. inr (drop-taken s f some))
+      (λ r found some. inr (drop-taken s f r some))
       (λ pl a. inr (answer-taken s f pl a))
 
   -- at most m calls take something, where the work left is at most m
@@ -141,7 +143,7 @@ module _ (input : List ℕ) (small : length input < limit) where
       (next-call s f)
 
 pub bound : Bound
-unfolding Within limit work
+unfolding Within limit work total sum
 bound input image output small h room =
     within input (omega arith) (length input) (stateOf image output freshReader)
     record { not-past = omega arith; image-good = h; room = room; few = omega arith } (omega arith)

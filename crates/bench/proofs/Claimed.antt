@@ -6,10 +6,13 @@ use Rattle.bench.proofs.Effects as Effects
 use Rattle.bench.proofs.Histories as Histories
 use Rattle.bench.proofs.Secret as Secret
 use Rattle.bench.proofs.Permalocked as Permalocked
-use Rattle.bench.specs.Claims.{AnswerNumbers, NothingChanges, DropTakesOneByte, AnswerIsOneFrame, History, WorkFalls, Bound, Starred, CommandsComeTo, GoodStaysGood, WriteEffect, LockEffect, KillEffect, NoOtherEffect, GapsStay, PermalockRule, Demand3, Demand3CanBeMet}
+use Rattle.bench.specs.Claims.{AnswerNumbers, DropReasons, NothingChanges, DropTakesOneByte, AnswerIsOneFrame, History, WorkFalls, Bound, Starred, CommandsComeTo, GoodStaysGood, WriteEffect, LockEffect, KillEffect, NoOtherEffect, GapsStay, PermalockRule, Demand3, Demand3CanBeMet}
 
 pub answer-numbers : AnswerNumbers
 answer-numbers = Answering.answer-numbers
+
+pub drop-reasons : DropReasons
+drop-reasons = Answering.drop-reasons
 
 pub nothing-changes : NothingChanges
 nothing-changes = Answering.nothing-changes

@@ -7,7 +7,7 @@ use mathlib.Core.Logic.{inl}
 use mathlib.Core.Path.{refl}
 use native.Mathlib.Omega.{arith}
 use Rattle.bench.specs.Claims.{Starred, PremisesMet, Demand3CanBeMet}
-use Rattle.reader.specs.Tallies.{limit, full, raised}
+use Rattle.reader.specs.Tallies.{limit, anyAtLimit, full, raised, withDropped}
 use Rattle.bench.specs.Machine.{Call, call, numberOf, unchanged, dropped, counted, answered, actIn, jobFor, decide, carriedOut, inputOf, restOf, step, run}
 use Rattle.bench.specs.Sample.{sample}
 use Rattle.bench.specs.Secrecy.{passwordsAt, acceptedBy, accepted, carries, carriesNone, noneCarries}
@@ -23,7 +23,7 @@ use Rattle.tag.specs.Locks.{pairs, bitsOf, permalocked, standingOf, standing, i
 
 -- all that the machine is made of, opened at once
 unfoldable pub everything : Unit {0}
-unfolding limit full raised numberOf unchanged dropped written counted answered actIn jobFor decide carriedOut inputOf restOf step run leaving shifted added bitStep bitSteps entered byteStep crc tagCrc pick all byte number double bytesOf part codeIn plIn parametersIn sumRight lastRight find sum checkOf checked frameOf frameLength longestCommand longestAnswer pcAndEpc tail answer changed isError passwordIn bankIn pointerIn countIn dataIn ldIn aimRight parseInventory parseRead parseWrite parseLock parseKill parse gone ifPresent admitted outside inventoryVerdict readAct readVerdict lengthBroken writeAct writeVerdict lockAct lockVerdict killAct killVerdict verdict actOf bankAt view rssi bankOf wordAt endOf epcLength killPassword accessPassword goodHeader goodBanks goodTag good pairs bitsOf permalocked standingOf standing isSecured isWrong killStandingOf killStanding allows touches mayTouchPasswords mayRead mayWrite newBit newPair newPairs breaks breaksPermalock passwordsAt acceptedBy accepted carries carriesNone noneCarries
+unfolding limit anyAtLimit full raised withDropped numberOf unchanged dropped written counted answered actIn jobFor decide carriedOut inputOf restOf step run leaving shifted added bitStep bitSteps entered byteStep crc tagCrc pick all byte number double bytesOf part codeIn plIn parametersIn sumRight lastRight find sum checkOf checked frameOf frameLength longestCommand longestAnswer pcAndEpc tail answer changed isError passwordIn bankIn pointerIn countIn dataIn ldIn aimRight parseInventory parseRead parseWrite parseLock parseKill parse gone ifPresent admitted outside inventoryVerdict readAct readVerdict lengthBroken writeAct writeVerdict lockAct lockVerdict killAct killVerdict verdict actOf bankAt view rssi bankOf wordAt endOf epcLength killPassword accessPassword goodHeader goodBanks goodTag good pairs bitsOf permalocked standingOf standing isSecured isWrong killStandingOf killStanding allows touches mayTouchPasswords mayRead mayWrite newBit newPair newPairs breaks breaksPermalock passwordsAt acceptedBy accepted carries carriesNone noneCarries
 everything = tt
 
 pub starred : Starred

@@ -85,9 +85,9 @@ module _ (c : Call) (s : State) (at : ℕ) (bytes : List ℕ) (Also : Type 0) wh
         record { error-stores-nothing = λ h. refl; good-stores-all = λ h. absurd (not-good (unchanged s o) m h) },
         λ h. absurd (not-good (unchanged s o) m h),
       ))
-      (λ r some. (
-        record { error-stores-nothing = λ h. refl; good-stores-all = λ h. absurd (not-good (dropped s) (omega arith) h) },
-        λ h. absurd (not-good (dropped s) (omega arith) h),
+      (λ r why found some. (
+        record { error-stores-nothing = λ h. refl; good-stores-all = λ h. absurd (not-good (dropped s why) (omega arith) h) },
+        λ h. absurd (not-good (dropped s why) (omega arith) h),
       ))
       (λ r pl a. from-answered (restOf c s) pl (e (r .image-good)))
 
@@ -175,7 +175,7 @@ pub image-after : (P : List ℕ → Type 0) (c : Call) (s : State) → P (s .ima
     → P (step c s .next .image)
 unfolding unchanged dropped answered
 image-after P c s same acts =
-    step-cases c s (λ (x : Step). P (x .next .image)) (λ o m n. same) (λ r some. same) (λ r pl a. acts (r .image-good))
+    step-cases c s (λ (x : Step). P (x .next .image)) (λ o m n. same) (λ r why found some. same) (λ r pl a. acts (r .image-good))
 
 pub no-other-effect : NoOtherEffect
 unfolding actIn changed

@@ -1,5 +1,6 @@
 pub mod Answering
 pub mod Bounding
+pub mod Callers
 pub mod Claimed
 pub mod Computed
 pub mod Effects

@@ -26,6 +26,7 @@ use Rattle.frame.specs.Finding.{find}
 use Rattle.frame.specs.Formats.{commands, codeIn, plIn, parametersIn}
 use Rattle.frame.specs.Frames.{frameLength, longestAnswer}
 use Rattle.frame.specs.declared.finding.Found.{Found}
+use Rattle.frame.specs.declared.finding.Reason.{Reason}
 use Rattle.image.specs.Image.{good}
 use Rattle.reader.specs.Tallies.{full, withGood, withError, withDropped}
 use Rattle.reader.specs.declared.state.Reader.{Reader}
@@ -83,14 +84,14 @@ module _ (input image output : List ℕ) (reader : Reader) where
     unfolding carriedOut unchanged
     stays o e = sym (step-is (Stay o) e)
 
-    pub drops : (t : Tally) → job ≡ DropByte → t ≡ withDropped (reader .tally)
-        → stepOf record { outcome = Dropped; length = 0; reader = readerOf (reader .cursor + 1) t } image output ≡ step (call input) s
+    pub drops : (r : Reason) (t : Tally) → job ≡ DropByte r → t ≡ withDropped r (reader .tally)
+        → stepOf record { outcome = Dropped r; length = 0; reader = readerOf (reader .cursor + 1) t } image output ≡ step (call input) s
     unfolding carriedOut dropped
-    drops t e counts = simp counts (sym (step-is DropByte e))
+    drops r t e counts = simp counts (sym (step-is (DropByte r) e))
 
-    pub byte-there : job ≡ DropByte → reader .cursor < length input
+    pub byte-there : (r : Reason) → job ≡ DropByte r → reader .cursor < length input
     unfolding restOf inputOf
-    byte-there e = omega (arith, decided-drop (call input) s (sym (judged .is) ∙ e) .1, length-drop (reader .cursor) input)
+    byte-there r e = omega (arith, decided-drop (call input) s r (sym (judged .is) ∙ e) .1, length-drop (reader .cursor) input)
 
   -- ---- an accepted command
 

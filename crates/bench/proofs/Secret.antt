@@ -10,7 +10,7 @@ use Rattle.bench.proofs.Quiet.{Kept, Public, untold, public-act, same-a
 use Rattle.bench.proofs.Steps.{jobIn}
 use Rattle.bench.proofs.Twins.{part-behind, same-view, same-rssi, same-epc, same-tail}
 use Rattle.bench.specs.Claims.{Demand3}
-use Rattle.bench.specs.Machine.{State, stateOf, readerOf, Call, Step, numberOf, unchanged, dropped, answered, counted, actIn, decide, carriedOut, restOf, step, run}
+use Rattle.bench.specs.Machine.{State, stateOf, readerOf, Call, Step, numberOf, reasonOf, unchanged, dropped, answered, counted, actIn, decide, carriedOut, restOf, step, run}
 use Rattle.bench.specs.declared.deciding.Job.{Job}
 use Rattle.bench.specs.declared.deciding.Job.the-variants.{Stay, DropByte, CarryOut}
 use Rattle.bench.specs.Secrecy.{passwordsAt, EqualElsewhere, Hidden, Command, acceptedBy, accepted, carriesNone, noneCarries, SameCall, Throughout}
@@ -22,6 +22,7 @@ use Rattle.frame.proofs.Tests.{and-left, and-right, and-both}
 use Rattle.frame.specs.Bytes.{all, number, double, part, twoBytes}
 use Rattle.frame.specs.Formats.{codeIn, parametersIn}
 use Rattle.frame.specs.Frames.{frameOf, frameLength, written}
+use Rattle.frame.specs.declared.finding.Reason.{Reason}
 use Rattle.image.proofs.GoodImages.{Good, good-facts}
 use Rattle.tag.proofs.StaysGood.{stays-good}
 use Rattle.tag.specs.Answers.{answer, changed}
@@ -157,9 +158,9 @@ module _ (a b : List ℕ) (ha : Hidden a) (hb : Hidden b) (s : State) (j : List 
   unfolding unchanged
   unchanged-alike o = record { outcome = refl; length = refl; output = refl; reader = refl; pair = t }
 
-  dropped-alike : Alike a b (dropped s) (dropped (swap s j))
+  dropped-alike : (r : Reason) → Alike a b (dropped s r) (dropped (swap s j) r)
   unfolding dropped
-  dropped-alike = record { outcome = refl; length = refl; output = refl; reader = refl; pair = t }
+  dropped-alike r = record { outcome = refl; length = refl; output = refl; reader = refl; pair = t }
 
   answered-alike : (rest : List ℕ) (pl : ℕ) → carriesNone a b record { code = codeIn rest; parameters = parametersIn rest } ≡ true
       → Alike a b (answered s rest pl (actIn s rest)) (answered (swap s j) rest pl (actIn (swap s j) rest))
@@ -197,7 +198,7 @@ module _ (a b : List ℕ) (ha : Hidden a) (hb : Hidden b) (s : State) (j : List 
       → Alike a b (carriedOut s (restOf c s) job) (carriedOut (swap s j) (restOf c s) job)
   unfolding carriedOut noneCarries all
   job-alike c (Stay o) e quiet = unchanged-alike o
-  job-alike c DropByte e quiet = dropped-alike
+  job-alike c (DropByte r) e quiet = dropped-alike r
   job-alike c (CarryOut pl) e quiet =
       answered-alike (restOf c s) pl (and-left _ (all []) (subst (λ (l : List Command). noneCarries a b l ≡ true) (accepts c pl e) quiet))
 
@@ -222,6 +223,7 @@ same-call : (a b : List ℕ) (x y : Step) → Alike a b x y → SameCall a b x y
 same-call a b x y l =
     record {
       same-number = ap numberOf (l .outcome);
+      same-reason = ap reasonOf (l .outcome);
       same-length = l .length;
       same-output = l .output;
       same-reader = l .reader;

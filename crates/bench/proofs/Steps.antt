@@ -19,6 +19,8 @@ use Rattle.frame.specs.Finding.{find}
 use Rattle.frame.specs.Formats.{commands}
 use Rattle.frame.specs.Frames.{longestAnswer}
 use Rattle.frame.specs.declared.finding.Found.{Found}
+use Rattle.frame.specs.declared.finding.Found.the-variants.{Drop}
+use Rattle.frame.specs.declared.finding.Reason.{Reason}
 use Rattle.image.specs.Image.{good}
 use Rattle.reader.specs.Tallies.{full}
 
@@ -40,7 +42,7 @@ job-ready c s r =
 
 -- every job, by cases
 module _ (c : Call) (s : State) (P : Job → Type 0) where
-  pub found-cases : P (Stay AtEnd) → P (Stay Incomplete) → (1 ≤ length (restOf c s) → P DropByte)
+  pub found-cases : P (Stay AtEnd) → P (Stay Incomplete) → ((r : Reason) → find commands (restOf c s) ≡ Drop r → 1 ≤ length (restOf c s) → P (DropByte r))
       → ((pl : ℕ) → Accepted commands (restOf c s) pl → P (CarryOut pl))
       → P (jobFor (find commands (restOf c s)))
   unfolding jobFor
@@ -48,7 +50,7 @@ module _ (c : Call) (s : State) (P : Job → Type 0) where
       find-cases commands (restOf c s) (λ (f : Found). P (jobFor f)) at-end drops incomplete answers
 
   pub job-cases : ((o : Outcome) → numberOf o ≢ 0 → numberOf o ≢ 3 → P (Stay o))
-      → (Ready c s → 1 ≤ length (restOf c s) → P DropByte)
+      → (Ready c s → (r : Reason) → find commands (restOf c s) ≡ Drop r → 1 ≤ length (restOf c s) → P (DropByte r))
       → (Ready c s → (pl : ℕ) → Accepted commands (restOf c s) pl → P (CarryOut pl))
       → P (jobIn c s)
   unfolding decide numberOf longestAnswer restOf
@@ -69,7 +71,7 @@ module _ (c : Call) (s : State) (P : Job → Type 0) where
 
 module _ (c : Call) (s : State) (P : Step → Type 0) where
   pub ready-cases : Ready c s → P (unchanged s AtEnd) → P (unchanged s Incomplete)
-      → (1 ≤ length (restOf c s) → P (dropped s))
+      → ((r : Reason) → find commands (restOf c s) ≡ Drop r → 1 ≤ length (restOf c s) → P (dropped s r))
       → ((pl : ℕ) → Accepted commands (restOf c s) pl → P (answered s (restOf c s) pl (actIn s (restOf c s))))
       → P (step c s)
   unfolding step carriedOut
@@ -78,7 +80,7 @@ module _ (c : Call) (s : State) (P : Step → Type 0) where
       (found-cases c s (λ (j : Job). P (carriedOut s (restOf c s) j)) at-end incomplete drops answers)
 
   pub step-cases : ((o : Outcome) → numberOf o ≢ 0 → numberOf o ≢ 3 → P (unchanged s o))
-      → (Ready c s → 1 ≤ length (restOf c s) → P (dropped s))
+      → (Ready c s → (r : Reason) → find commands (restOf c s) ≡ Drop r → 1 ≤ length (restOf c s) → P (dropped s r))
       → (Ready c s → (pl : ℕ) → Accepted commands (restOf c s) pl → P (answered s (restOf c s) pl (actIn s (restOf c s))))
       → P (step c s)
   unfolding step carriedOut
@@ -94,12 +96,12 @@ pub decided-answer : (c : Call) (s : State) (pl : ℕ) → jobIn c s ≡ CarryOu
 decided-answer c s pl =
     job-cases c s (λ (j : Job). j ≡ CarryOut pl → Answers c s pl)
     (λ o m n e. let z : _≡_ {A = ℕ} 0 1 = cc in absurd (omega arith))
-    (λ r some e. let z : _≡_ {A = ℕ} 0 1 = cc in absurd (omega arith))
+    (λ r why found some e. let z : _≡_ {A = ℕ} 0 1 = cc in absurd (omega arith))
     (λ r n a e. let same : n ≡ pl = cc in subst (Answers c s) same record { ready = r; accepts = a })
 
-pub decided-drop : (c : Call) (s : State) → jobIn c s ≡ DropByte → Ready c s × (1 ≤ length (restOf c s))
-decided-drop c s =
-    job-cases c s (λ (j : Job). j ≡ DropByte → Ready c s × (1 ≤ length (restOf c s)))
+pub decided-drop : (c : Call) (s : State) (r : Reason) → jobIn c s ≡ DropByte r → Ready c s × (1 ≤ length (restOf c s))
+decided-drop c s reason =
+    job-cases c s (λ (j : Job). j ≡ DropByte reason → Ready c s × (1 ≤ length (restOf c s)))
     (λ o m n e. let z : _≡_ {A = ℕ} 0 1 = cc in absurd (omega arith))
-    (λ r some e. (r, some))
+    (λ r why found some e. (r, some))
     (λ r n a e. let z : _≡_ {A = ℕ} 0 1 = cc in absurd (omega arith))

@@ -8,7 +8,7 @@ use mathlib.Core.Path.{_≡_}
 use lib.Dec.{eqb, leb, ltb}
 use lib.ListN.{length, take, drop, replicate}
 use Rattle.reader.specs.Readers.{freshReader}
-use Rattle.bench.specs.Machine.{State, stateOf, Call, call, Step, numberOf, inputOf, restOf, actIn, step, work, run, after}
+use Rattle.bench.specs.Machine.{State, stateOf, Call, call, Step, numberOf, reasonOf, inputOf, restOf, actIn, step, work, run, after}
 use Rattle.bench.specs.Sample.{cases, given, expected}
 use Rattle.bench.specs.Secrecy.{passwordsAt, EqualElsewhere, Hidden, accepted, noneCarries, SameCall, Throughout}
 use Rattle.reader.specs.declared.state.Reader.{Reader}
@@ -22,9 +22,12 @@ use Rattle.image.specs.Image.{good, view, bankOf, endOf, wordAt, killPassword, 
 use Rattle.tag.specs.Locks.{pairs, bitsOf, newPairs}
 use Rattle.tag.specs.declared.locks.Pairs.{Pairs}
 
--- the answer number of a call, and the code and parameters of the command in front of it
+-- the answer number of a call, the reason of its drop (0: none), and the code and parameters of the command in front of it
 abbrev pub answerOf : Call → State → ℕ
 answerOf c s = numberOf (step c s .outcome)
+
+abbrev pub reasonIn : Call → State → ℕ
+reasonIn c s = reasonOf (step c s .outcome)
 
 abbrev pub codeOf : Call → State → ℕ
 codeOf c s = codeIn (restOf c s)
@@ -47,7 +50,11 @@ AnswerNumbers =
     ∷ (ltb (length (s .output)) 136, 12)
     ∷ (eqb (s .reader .tally .good) 4294967295, 13)
     ∷ (eqb (s .reader .tally .error) 4294967295, 13)
-    ∷ (eqb (s .reader .tally .dropped) 4294967295, 13)
+    ∷ (eqb (s .reader .tally .header) 4294967295, 13)
+    ∷ (eqb (s .reader .tally .kind) 4294967295, 13)
+    ∷ (eqb (s .reader .tally .long) 4294967295, 13)
+    ∷ (eqb (s .reader .tally .check) 4294967295, 13)
+    ∷ (eqb (s .reader .tally .end) 4294967295, 13)
     ∷ (eqb (length (restOf c s)) 0, 1)
     ∷ (not (eqb (byte (restOf c s) 0) 0xBB), 3)
     ∷ (leb 2 (length (restOf c s)) && not (eqb (byte (restOf c s) 1) 0x00), 3)
@@ -58,12 +65,28 @@ AnswerNumbers =
     ∷ [])
     0
 
+-- "Answer 3 now carries a reason: 1 no header, 2 wrong type, 3 too long, 4 wrong check, 5 wrong end, in the order of the finding rules, check before
+-- end." A call that drops no byte has none.
+abbrev pub DropReasons : Type 0
+DropReasons =
+    (c : Call) (s : State)
+    → (answerOf c s ≢ 3 → reasonIn c s ≡ 0)
+    × (answerOf c s ≡ 3
+    → reasonIn c s
+    ≡ firstOf
+    ((not (eqb (byte (restOf c s) 0) 0xBB), 1)
+    ∷ (leb 2 (length (restOf c s)) && not (eqb (byte (restOf c s) 1) 0x00), 2)
+    ∷ (leb 5 (length (restOf c s)) && ltb 80 (number (restOf c s) 3), 3)
+    ∷ (not (eqb (byte (restOf c s) (5 + number (restOf c s) 3)) (sum (part (restOf c s) 1 (4 + number (restOf c s) 3)) % 256)), 4)
+    ∷ [])
+    5)
+
 -- "a refused call changes neither image, output, cursor nor tally"; "Under 1, 2 and 10 to 13 the next state is the old one"; "The call
 -- reports the length written, 0 in all other cases."
 abbrev pub NothingChanges : Type 0
 NothingChanges = (c : Call) (s : State) → answerOf c s ≢ 0 → answerOf c s ≢ 3 → (step c s .next ≡ s) × (step c s .length ≡ 0)
 
--- "A drop takes exactly one byte"; "under 3 only cursor and tally change"
+-- "A drop takes exactly one byte"; "under 3 only cursor and tally change": the count of the drop's reason goes up by one
 abbrev pub DropTakesOneByte : Type 0
 DropTakesOneByte =
     (c : Call) (s : State)
@@ -73,7 +96,16 @@ DropTakesOneByte =
     ≡ stateOf (s .image) (s .output)
     record {
       cursor = s .reader .cursor + 1;
-      tally = record { good = s .reader .tally .good; error = s .reader .tally .error; dropped = s .reader .tally .dropped + 1 };
+      tally =
+          record {
+            good = s .reader .tally .good;
+            error = s .reader .tally .error;
+            header = s .reader .tally .header + pick (eqb (reasonIn c s) 1) 1 0;
+            kind = s .reader .tally .kind + pick (eqb (reasonIn c s) 2) 1 0;
+            long = s .reader .tally .long + pick (eqb (reasonIn c s) 3) 1 0;
+            check = s .reader .tally .check + pick (eqb (reasonIn c s) 4) 1 0;
+            end = s .reader .tally .end + pick (eqb (reasonIn c s) 5) 1 0;
+          };
     })
 
 -- 0: "one frame at the start of the output; cursor moves over the command"; "Answers have at most 136 bytes."; "Bytes of the output
@@ -100,11 +132,11 @@ isGood x = eqb (numberOf (x .outcome)) 0 && not (eqb (byte (x .next .output) 2) 
 unfoldable pub isError : Step → Bool
 isError x = eqb (numberOf (x .outcome)) 0 && eqb (byte (x .next .output) 2) 0xFF
 
-unfoldable pub isDropped : Step → Bool
-isDropped x = eqb (numberOf (x .outcome)) 3
+unfoldable pub isDropped : ℕ → Step → Bool
+isDropped reason x = eqb (numberOf (x .outcome)) 3 && eqb (reasonOf (x .outcome)) reason
 
 -- "Each answer 0 or 3 raises exactly one of them by one; nothing else does." "counts equal those at the start plus the number of such
--- calls in the history"
+-- calls in the history", each reason by its own
 abbrev pub History : Type 0
 History =
     (calls : List Call) (s : State)
@@ -112,7 +144,11 @@ History =
     ≡ record {
       good = s .reader .tally .good + count isGood (run calls s);
       error = s .reader .tally .error + count isError (run calls s);
-      dropped = s .reader .tally .dropped + count isDropped (run calls s);
+      header = s .reader .tally .header + count (isDropped 1) (run calls s);
+      kind = s .reader .tally .kind + count (isDropped 2) (run calls s);
+      long = s .reader .tally .long + count (isDropped 3) (run calls s);
+      check = s .reader .tally .check + count (isDropped 4) (run calls s);
+      end = s .reader .tally .end + count (isDropped 5) (run calls s);
     }
 
 -- Each answer 0 or 3 lowers the work that is left.

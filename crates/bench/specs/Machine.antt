@@ -10,11 +10,12 @@ use Rattle.bench.specs.declared.deciding.Job.the-variants.{Stay, DropByt
 use Rattle.bench.specs.declared.outcome.Outcome.{Outcome}
 use Rattle.bench.specs.declared.outcome.Outcome.the-variants.{Answered, AtEnd, Incomplete, Dropped, PastEnd, BadImage, ShortOutput, FullTally}
 use Rattle.frame.specs.Bytes.{pick}
-use Rattle.frame.specs.Finding.{find}
+use Rattle.frame.specs.Finding.{find, reasonNumber}
 use Rattle.frame.specs.Formats.{commands, codeIn, parametersIn}
 use Rattle.frame.specs.Frames.{frameLength, longestAnswer, written}
 use Rattle.frame.specs.declared.finding.Found.{Found}
 use Rattle.frame.specs.declared.finding.Found.the-variants.{End, Drop, Wait, Accept}
+use Rattle.frame.specs.declared.finding.Reason.{Reason}
 use Rattle.image.specs.Image.{good}
 use Rattle.reader.specs.Tallies.{full, withGood, withError, withDropped}
 use Rattle.reader.specs.declared.state.Reader.{Reader}
@@ -50,23 +51,34 @@ unfoldable pub numberOf : Outcome → ℕ
 numberOf Answered = 0
 numberOf AtEnd = 1
 numberOf Incomplete = 2
-numberOf Dropped = 3
+numberOf (Dropped r) = 3
 numberOf PastEnd = 10
 numberOf BadImage = 11
 numberOf ShortOutput = 12
 numberOf FullTally = 13
+
+-- "Answer 3 now carries a reason"; 0 where no byte was dropped
+unfoldable pub reasonOf : Outcome → ℕ
+reasonOf Answered = 0
+reasonOf AtEnd = 0
+reasonOf Incomplete = 0
+reasonOf (Dropped r) = reasonNumber r
+reasonOf PastEnd = 0
+reasonOf BadImage = 0
+reasonOf ShortOutput = 0
+reasonOf FullTally = 0
 
 -- "Under 1, 2 and 10 to 13 the next state is the old one"
 unfoldable pub unchanged : State → Outcome → Step
 unchanged s outcome = record { outcome = outcome; length = 0; next = s }
 
 -- "under 3 only cursor and tally change"
-unfoldable pub dropped : State → Step
-dropped s =
+unfoldable pub dropped : State → Reason → Step
+dropped s r =
     record {
-      outcome = Dropped;
+      outcome = Dropped r;
       length = 0;
-      next = stateOf (s .image) (s .output) (readerOf (s .reader .cursor + 1) (withDropped (s .reader .tally)));
+      next = stateOf (s .image) (s .output) (readerOf (s .reader .cursor + 1) (withDropped r (s .reader .tally)));
     }
 
 -- "Each answer 0 or 3 raises exactly one of them by one"
@@ -93,7 +105,7 @@ actIn s rest = actOf (s .image) (codeIn rest) (parametersIn rest)
 unfoldable pub jobFor : Found → Job
 jobFor End = Stay AtEnd
 jobFor Wait = Stay Incomplete
-jobFor Drop = DropByte
+jobFor (Drop r) = DropByte r
 jobFor (Accept pl) = CarryOut pl
 
 -- "Tests in the order 10, 11, 12, 13, then the finding rules"; the output has `room` bytes
@@ -109,7 +121,7 @@ decide input image room reader =
 
 unfoldable pub carriedOut : State → List ℕ → Job → Step
 carriedOut s rest (Stay outcome) = unchanged s outcome
-carriedOut s rest DropByte = dropped s
+carriedOut s rest (DropByte r) = dropped s r
 carriedOut s rest (CarryOut pl) = answered s rest pl (actIn s rest)
 
 -- "A call looks at the input from the cursor"

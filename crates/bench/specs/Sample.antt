@@ -4,8 +4,9 @@ use mathlib.Core.List.{List, [], _∷_, _++_}
 use lib.ListN.{length, replicate}
 use lib.Seq.{sets}
 use Rattle.frame.specs.Bytes.{bytesOf as bytes}
+use Rattle.frame.specs.declared.finding.Reason.the-variants.{WrongCheck}
 use Rattle.reader.specs.Readers.{freshReader}
-use Rattle.reader.specs.Tallies.{freshTally}
+use Rattle.reader.specs.Tallies.{tallyOf, freshTally}
 use Rattle.bench.specs.Machine.{stateOf, readerOf, call, Step, step}
 use Rattle.bench.specs.declared.outcome.Outcome.{Outcome}
 use Rattle.bench.specs.declared.outcome.Outcome.the-variants.{Answered, Incomplete, Dropped}
@@ -56,13 +57,13 @@ case image input outcome frame imageLeft cursor tally =
     record { image = image; input = input; outcome = outcome; frame = frame; imageLeft = imageLeft; cursor = cursor; tally = tally }
 
 abbrev pub oneGood : Tally
-oneGood = record { good = 1; error = 0; dropped = 0 }
+oneGood = tallyOf 1 0 0 0 0 0 0
 
 abbrev pub oneError : Tally
-oneError = record { good = 0; error = 1; dropped = 0 }
+oneError = tallyOf 0 1 0 0 0 0 0
 
-abbrev pub oneDropped : Tally
-oneDropped = record { good = 0; error = 0; dropped = 1 }
+abbrev pub oneWrongCheck : Tally
+oneWrongCheck = tallyOf 0 0 0 0 0 1 0
 
 -- the starred cases, in the order of the paper
 abbrev pub cases : List Case
@@ -71,7 +72,7 @@ cases =
     -- "gives check B0 and data 12 34 56 78"
     ∷ case sample (bytes 16 0xBB_00_39_00_09_00_00_FF_FF_03_00_00_00_02_45_7E) Answered (bytes 26 0xBB_01_39_00_13_0E_34_00_30_75_1F_EB_70_5C_59_04_E3_D5_0D_70_12_34_56_78_B0_7E) sample 16 oneGood
     -- "The same frame with check 46: one byte dropped."
-    ∷ case sample (bytes 16 0xBB_00_39_00_09_00_00_FF_FF_03_00_00_00_02_46_7E) Dropped [] sample 1 oneDropped
+    ∷ case sample (bytes 16 0xBB_00_39_00_09_00_00_FF_FF_03_00_00_00_02_46_7E) (Dropped WrongCheck) [] sample 1 oneWrongCheck
     -- "Pointer 14, count 2, User: good."
     ∷ case sample (bytes 16 0xBB_00_39_00_09_00_00_FF_FF_03_00_0E_00_02_53_7E) Answered (bytes 26 0xBB_01_39_00_13_0E_34_00_30_75_1F_EB_70_5C_59_04_E3_D5_0D_70_00_00_00_00_9C_7E) sample 16 oneGood
     -- "Pointer 15, count 2: A3, check 02."

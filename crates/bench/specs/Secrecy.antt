@@ -6,7 +6,7 @@ use mathlib.Core.Logic.{_⊎_, _≢_}
 use mathlib.Core.Path.{_≡_}
 use lib.Dec.{eqb, leb}
 use lib.ListN.{length, take, drop}
-use Rattle.bench.specs.Machine.{State, Call, Step, numberOf, step, restOf}
+use Rattle.bench.specs.Machine.{State, Call, Step, numberOf, reasonOf, step, restOf}
 use Rattle.frame.specs.Bytes.{pick, all, double, part}
 use Rattle.frame.specs.Formats.{codeIn, parametersIn}
 use Rattle.image.specs.Image.{view, killPassword, accessPassword}
@@ -63,6 +63,7 @@ noneCarries a b (m ∷ commands) = carriesNone a b m && noneCarries a b commands
 -- password bytes stay in each run as they were, and the images stay equal elsewhere." Cursor and counts are the reader's own state.
 pub record SameCall (a b : List ℕ) (x y : Step) : Type 0 where
   pub same-number : numberOf (x .outcome) ≡ numberOf (y .outcome)
+  pub same-reason : reasonOf (x .outcome) ≡ reasonOf (y .outcome)
   pub same-length : x .length ≡ y .length
   pub same-output : x .next .output ≡ y .next .output
   pub same-reader : x .next .reader ≡ y .next .reader

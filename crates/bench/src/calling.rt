@@ -73,12 +73,12 @@ fn carry_out(input: &[u8], image: &mut [u8], output: &mut [u8], reader: Reader, 
             length: 0,
             reader,
         },
-        Job::DropByte => Called {
-            outcome: Outcome::Dropped,
+        Job::DropByte(reason) => Called {
+            outcome: Outcome::Dropped(reason),
             length: 0,
             reader: Reader {
                 cursor: cursor + 1,
-                tally: tally.with_dropped(),
+                tally: tally.with_dropped(reason),
             },
         },
         Job::CarryOut(pl) => answer(input, image, output, reader, pl),

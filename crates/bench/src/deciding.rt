@@ -1,6 +1,7 @@
 // What a call is to do: every test in the order of document 01, "Answer numbers of a call" and "Finding a command". Nothing is changed here.
 use crate::outcome::Outcome;
 use frame::finding::Found;
+use frame::finding::Reason;
 use frame::finding::find;
 use image::good::is_good;
 use reader::state::Reader;
@@ -11,8 +12,8 @@ ghost use Rattle.bench.specs.Machine.{jobFor, decide};
 pub enum Job {
     // The call ends so, with nothing changed.
     Stay(Outcome),
-    // One byte is dropped.
-    DropByte,
+    // One byte is dropped, for this reason.
+    DropByte(Reason),
     // The command at the cursor, with this many parameter bytes, is carried out.
     CarryOut(usize),
 }
@@ -23,7 +24,7 @@ fn job_for(found: Found) -> Job
     match found {
         Found::End => Job::Stay(Outcome::AtEnd),
         Found::Wait => Job::Stay(Outcome::Incomplete),
-        Found::Drop => Job::DropByte,
+        Found::Drop(reason) => Job::DropByte(reason),
         Found::Accept(pl) => Job::CarryOut(pl),
     }
 }

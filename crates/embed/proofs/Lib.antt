@@ -1,1 +1,2 @@
-mod Packing
+pub mod Keeping
+pub mod Packing

@@ -2,71 +2,85 @@
 use Prim.Native.Nat.{ℕ, _≤_, _<_}
 use borrow.Author.Tests.{lt-ltb, le-ltb, eq-eqb, ne-eqb}
 use lib.ListN.{length, set, getD}
+use mathlib.Core.Bool.{Bool, true, false}
 use mathlib.Core.List.{List, [], _∷_}
 use mathlib.Core.Path.{_≡_, refl, sym, ap, _∙_}
 use native.Mathlib.Omega.{arith}
 use Rattle.bench.specs.Calls.{stepOf}
-use Rattle.bench.specs.Machine.{stateOf, call, step, numberOf}
+use Rattle.bench.specs.Machine.{stateOf, call, step, numberOf, reasonOf}
 use Rattle.bench.specs.declared.calling.Called.{Called}
-use Rattle.embed.specs.Packed.{packed, readerOf, leftBy, told, calledWith, called}
+use Rattle.embed.specs.Packed.{packed, countsIn, anyAbove, readerIn, leftBy, told, calledWith, called}
 use Rattle.embed.specs.declared.Unpacked.{Unpacked}
 use Rattle.embed.specs.declared.Unpacked.the-variants.{Fit, OutOfRange}
 use Rattle.frame.proofs.Picks.{pick-true, pick-false}
-use Rattle.reader.specs.Tallies.{limit}
+use Rattle.reader.specs.Tallies.{tallyOf, limit}
 use Rattle.reader.specs.declared.state.Reader.{Reader}
 
--- five stores into a list of five
-pub all-stored : (s : List ℕ) (a b c d e : ℕ) → length s ≡ 5
-    → set (set (set (set (set s 0 a) 1 b) 2 c) 3 d) 4 e ≡ a ∷ b ∷ c ∷ d ∷ e ∷ []
-all-stored (s0 ∷ s1 ∷ s2 ∷ s3 ∷ s4 ∷ []) a b c d e h = refl
-all-stored [] a b c d e h = absurd (omega arith)
-all-stored (s0 ∷ []) a b c d e h = absurd (omega arith)
-all-stored (s0 ∷ s1 ∷ []) a b c d e h = absurd (omega arith)
-all-stored (s0 ∷ s1 ∷ s2 ∷ []) a b c d e h = absurd (omega arith)
-all-stored (s0 ∷ s1 ∷ s2 ∷ s3 ∷ []) a b c d e h = absurd (omega arith)
-all-stored (s0 ∷ s1 ∷ s2 ∷ s3 ∷ s4 ∷ s5 ∷ s) a b c d e h = absurd (omega arith)
+-- a list of ten numbers, number by number
+pub ten-cases : (P : List ℕ → Type 0) → ((s0 s1 s2 s3 s4 s5 s6 s7 s8 s9 : ℕ) → P (s0 ∷ s1 ∷ s2 ∷ s3 ∷ s4 ∷ s5 ∷ s6 ∷ s7 ∷ s8 ∷ s9 ∷ [])) → (state : List ℕ) → length state ≡ 10 → P state
+ten-cases P ten (s0 ∷ s1 ∷ s2 ∷ s3 ∷ s4 ∷ s5 ∷ s6 ∷ s7 ∷ s8 ∷ s9 ∷ []) h = ten s0 s1 s2 s3 s4 s5 s6 s7 s8 s9
+ten-cases P ten [] h = absurd (omega arith)
+ten-cases P ten (s0 ∷ []) h = absurd (omega arith)
+ten-cases P ten (s0 ∷ s1 ∷ []) h = absurd (omega arith)
+ten-cases P ten (s0 ∷ s1 ∷ s2 ∷ []) h = absurd (omega arith)
+ten-cases P ten (s0 ∷ s1 ∷ s2 ∷ s3 ∷ []) h = absurd (omega arith)
+ten-cases P ten (s0 ∷ s1 ∷ s2 ∷ s3 ∷ s4 ∷ []) h = absurd (omega arith)
+ten-cases P ten (s0 ∷ s1 ∷ s2 ∷ s3 ∷ s4 ∷ s5 ∷ []) h = absurd (omega arith)
+ten-cases P ten (s0 ∷ s1 ∷ s2 ∷ s3 ∷ s4 ∷ s5 ∷ s6 ∷ []) h = absurd (omega arith)
+ten-cases P ten (s0 ∷ s1 ∷ s2 ∷ s3 ∷ s4 ∷ s5 ∷ s6 ∷ s7 ∷ []) h = absurd (omega arith)
+ten-cases P ten (s0 ∷ s1 ∷ s2 ∷ s3 ∷ s4 ∷ s5 ∷ s6 ∷ s7 ∷ s8 ∷ []) h = absurd (omega arith)
+ten-cases P ten (s0 ∷ s1 ∷ s2 ∷ s3 ∷ s4 ∷ s5 ∷ s6 ∷ s7 ∷ s8 ∷ s9 ∷ s10 ∷ s) h = absurd (omega arith)
 
--- ---- a reader's state of four numbers
+-- ---- the seven counts
 
-module _ (cursor good error dropped : ℕ) where
-  pub good-high : limit < good → OutOfRange ≡ readerOf cursor good error dropped
-  unfolding readerOf
-  good-high g = simp (lt-ltb limit good g, pick-true)
+pub one-above : (n : ℕ) (counts : List ℕ) → limit < n → anyAbove (n ∷ counts) ≡ true
+unfolding anyAbove
+one-above n counts h = simp (lt-ltb limit n h)
 
-  pub error-high : good ≤ limit → limit < error → OutOfRange ≡ readerOf cursor good error dropped
-  unfolding readerOf
-  error-high g e = simp (le-ltb limit good g, lt-ltb limit error e, pick-true, pick-false)
+pub not-above : (n : ℕ) (counts : List ℕ) {b : Bool} → n ≤ limit → anyAbove counts ≡ b → anyAbove (n ∷ counts) ≡ b
+unfolding anyAbove
+not-above n counts h e = simp (le-ltb limit n h) e
 
-  pub dropped-high : good ≤ limit → error ≤ limit → limit < dropped → OutOfRange ≡ readerOf cursor good error dropped
-  unfolding readerOf
-  dropped-high g e d = simp (le-ltb limit good g, le-ltb limit error e, lt-ltb limit dropped d, pick-true, pick-false)
+pub none-above : anyAbove [] ≡ false
+unfolding anyAbove
+none-above = refl
 
-  pub all-fit : good ≤ limit → error ≤ limit → dropped ≤ limit
-      → Fit record { cursor = cursor; tally = record { good = good; error = error; dropped = dropped } } ≡ readerOf cursor good error dropped
-  unfolding readerOf
-  all-fit g e d = simp (le-ltb limit good g, le-ltb limit error e, le-ltb limit dropped d, pick-false)
+module _ (state : List ℕ) where
+  pub too-high : anyAbove (countsIn state) ≡ true → OutOfRange ≡ readerIn state
+  unfolding readerIn
+  too-high h = simp (h, pick-true)
+
+  pub all-fit : anyAbove (countsIn state) ≡ false
+      → Fit record {
+        cursor = getD state 0 0;
+        tally =
+            tallyOf (getD state 1 0) (getD state 2 0) (getD state 3 0) (getD state 4 0) (getD state 5 0) (getD state 6 0) (getD state 7 0);
+      }
+      ≡ readerIn state
+  unfolding readerIn
+  all-fit h = simp (h, pick-false)
 
 -- ---- the ends of a call
 
 module _ (input image output state : List ℕ) where
-  pub not-five : (length state ≡ 5 → ⊥) → leftBy 20 image output state ≡ called input image output state
+  pub not-ten : (length state ≡ 10 → ⊥) → leftBy 20 image output state ≡ called input image output state
   unfolding called
-  not-five h = simp (ne-eqb (length state) 5 h, pick-true)
+  not-ten h = simp (ne-eqb (length state) 10 h, pick-true)
 
-  -- what a call on five numbers comes to, by what they are as a reader's state
-  made-known : (made told′ : Unpacked) → length state ≡ 5 → made ≡ readerOf (getD state 0 0) (getD state 1 0) (getD state 2 0) (getD state 3 0) → made ≡ told′
+  -- what a call on ten numbers comes to, by what they are as a reader's state
+  made-known : (made told′ : Unpacked) → length state ≡ 10 → made ≡ readerIn state → made ≡ told′
       → calledWith input image output state told′ ≡ called input image output state
   unfolding called
-  made-known made told′ h e k = simp (eq-eqb (length state) 5 h, pick-false, sym e, k)
+  made-known made told′ h e k = simp (eq-eqb (length state) 10 h, pick-false, sym e, k)
 
-  pub out-of-range : (made : Unpacked) → length state ≡ 5 → made ≡ readerOf (getD state 0 0) (getD state 1 0) (getD state 2 0) (getD state 3 0) → made ≡ OutOfRange
+  pub out-of-range : (made : Unpacked) → length state ≡ 10 → made ≡ readerIn state → made ≡ OutOfRange
       → leftBy 21 image output state ≡ called input image output state
   unfolding calledWith
   out-of-range made h e k = made-known made OutOfRange h e k
 
-  pub carried-out : (made : Unpacked) (reader : Reader) → length state ≡ 5 → made ≡ readerOf (getD state 0 0) (getD state 1 0) (getD state 2 0) (getD state 3 0)
+  pub carried-out : (made : Unpacked) (reader : Reader) → length state ≡ 10 → made ≡ readerIn state
       → made ≡ Fit reader → (r : Called) (image′ output′ : List ℕ) → stepOf r image′ output′ ≡ step (call input) (stateOf image output reader)
-      → (answer : ℕ) (state′ : List ℕ) → answer ≡ numberOf (r .outcome) → state′ ≡ packed (r .reader) (r .length)
+      → (answer : ℕ) (state′ : List ℕ) → answer ≡ numberOf (r .outcome) → state′ ≡ packed (r .reader) (r .length) (reasonOf (r .outcome))
       → leftBy answer image′ output′ state′ ≡ called input image output state
   unfolding calledWith told
   carried-out made reader h e k r image′ output′ s answer state′ n p =

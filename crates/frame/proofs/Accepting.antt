@@ -13,8 +13,10 @@ use Rattle.frame.specs.Formats.{Format}
 use Rattle.frame.specs.Frames.{frameLength}
 use Rattle.frame.specs.declared.finding.Found.{Found}
 use Rattle.frame.specs.declared.finding.Found.the-variants.{End, Drop, Wait, Accept}
+use Rattle.frame.specs.declared.finding.Reason.{Reason}
+use Rattle.frame.specs.declared.finding.Reason.the-variants.{NoHeader, WrongType, TooLong, WrongCheck, WrongEnd}
 use Rattle.frame.proofs.Picks.{by-test}
-use Rattle.frame.proofs.Tests.{and-left, and-right, and-second}
+use Rattle.frame.proofs.Tests.{and-second}
 
 pub record Accepted (f : Format) (rest : List ℕ) (n : ℕ) : Type 0 where
   pub read : n ≡ f .lengthIn rest
@@ -32,8 +34,8 @@ module _ (f : Format) (rest : List ℕ) (n : ℕ) where
   no-end : Claim End
   no-end e = let z : _≡_ {A = ℕ} 0 1 = cc in absurd (omega arith)
 
-  no-drop : Claim Drop
-  no-drop e = let z : _≡_ {A = ℕ} 0 1 = cc in absurd (omega arith)
+  no-drop : (r : Reason) → Claim (Drop r)
+  no-drop r e = let z : _≡_ {A = ℕ} 0 1 = cc in absurd (omega arith)
 
   no-wait : Claim Wait
   no-wait e = let z : _≡_ {A = ℕ} 0 1 = cc in absurd (omega arith)
@@ -43,7 +45,8 @@ module _ (f : Format) (rest : List ℕ) (n : ℕ) where
       (second : (leb 2 (length rest) && not (f .secondRight (byte rest 1))) ≡ false)
       (short : (leb 5 (length rest) && ltb (f .longest) (f .lengthIn rest)) ≡ false)
       (whole : ltb (length rest) (frameLength (f .lengthIn rest)) ≡ false)
-      (right : not (f .checkRight (f .lengthIn rest) rest && f .endRight (f .lengthIn rest) rest) ≡ false) where
+      (sum : not (f .checkRight (f .lengthIn rest) rest) ≡ false)
+      (last : not (f .endRight (f .lengthIn rest) rest) ≡ false) where
     all-passed : Claim (Accept (f .lengthIn rest))
     unfolding frameLength
     all-passed e =
@@ -51,24 +54,24 @@ module _ (f : Format) (rest : List ℕ) (n : ℕ) where
         let room : 7 + f .lengthIn rest ≤ length rest = ltb-false (length rest) (7 + f .lengthIn rest) whole in
         let typed : not (f .secondRight (byte rest 1)) ≡ false = and-second _ _ (le-leb 2 (length rest) (omega arith)) second in
         let few : f .lengthIn rest ≤ f .longest = ltb-false (f .longest) (f .lengthIn rest) (and-second _ _ (le-leb 5 (length rest) (omega arith)) short) in
-        let both : (f .checkRight (f .lengthIn rest) rest && f .endRight (f .lengthIn rest) rest) ≡ true = not-false _ right in
         record {
           read = same;
           short = omega arith;
           fits = omega arith;
           header = eqb-true (byte rest 0) (f .head) (not-false _ header);
           second-right = not-false _ typed;
-          check-right = and-left (f .checkRight (f .lengthIn rest) rest) (f .endRight (f .lengthIn rest) rest) both;
-          end-right = and-right (f .checkRight (f .lengthIn rest) rest) (f .endRight (f .lengthIn rest) rest) both;
+          check-right = not-false _ sum;
+          end-right = not-false _ last;
         }
 
   pub accepted : find f rest ≡ Accept n → Accepted f rest n
   unfolding find
   accepted =
       by-test Claim (eqb (length rest) 0) (λ none. no-end)
-      (λ some. by-test Claim (not (eqb (byte rest 0) (f .head))) (λ other. no-drop)
-      (λ header. by-test Claim (leb 2 (length rest) && not (f .secondRight (byte rest 1))) (λ other. no-drop)
-      (λ second. by-test Claim (leb 5 (length rest) && ltb (f .longest) (f .lengthIn rest)) (λ long. no-drop)
+      (λ some. by-test Claim (not (eqb (byte rest 0) (f .head))) (λ other. no-drop NoHeader)
+      (λ header. by-test Claim (leb 2 (length rest) && not (f .secondRight (byte rest 1))) (λ other. no-drop WrongType)
+      (λ second. by-test Claim (leb 5 (length rest) && ltb (f .longest) (f .lengthIn rest)) (λ long. no-drop TooLong)
       (λ short. by-test Claim (ltb (length rest) (frameLength (f .lengthIn rest))) (λ part-there. no-wait)
-      (λ whole. by-test Claim (not (f .checkRight (f .lengthIn rest) rest && f .endRight (f .lengthIn rest) rest)) (λ wrong. no-drop)
-      (λ right. all-passed header second short whole right))))))
+      (λ whole. by-test Claim (not (f .checkRight (f .lengthIn rest) rest)) (λ wrong. no-drop WrongCheck)
+      (λ sum. by-test Claim (not (f .endRight (f .lengthIn rest) rest)) (λ wrong. no-drop WrongEnd)
+      (λ last. all-passed header second short whole sum last)))))))

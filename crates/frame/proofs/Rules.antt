@@ -12,6 +12,7 @@ use Rattle.frame.specs.Finding.{find}
 use Rattle.frame.specs.Formats.{Format}
 use Rattle.frame.specs.Frames.{frameLength}
 use Rattle.frame.specs.declared.finding.Found.the-variants.{End, Drop, Wait, Accept}
+use Rattle.frame.specs.declared.finding.Reason.the-variants.{NoHeader, WrongType, TooLong, WrongCheck, WrongEnd}
 use Rattle.frame.proofs.Picks.{pick-true, pick-false}
 
 not-both : (one other : Bool) → (one ≡ true → other ≡ false) → (one && other) ≡ false
@@ -23,7 +24,7 @@ module _ (f : Format) (rest : List ℕ) where
   unfolding find
   find-end none = simp (eq-eqb (length rest) 0 none, pick-true)
 
-  pub find-no-header : 0 < length rest → (byte rest 0 ≡ f .head → ⊥) → find f rest ≡ Drop
+  pub find-no-header : 0 < length rest → (byte rest 0 ≡ f .head → ⊥) → find f rest ≡ Drop NoHeader
   unfolding find
   find-no-header some other =
       simp (ne-eqb (length rest) 0 (λ none. omega arith), ne-eqb (byte rest 0) (f .head) other, pick-true, pick-false)
@@ -35,7 +36,7 @@ module _ (f : Format) (rest : List ℕ) where
     header-there : not (eqb (byte rest 0) (f .head)) ≡ false
     header-there = simp (eq-eqb (byte rest 0) (f .head) header)
 
-    pub find-wrong-type : 2 ≤ length rest → f .secondRight (byte rest 1) ≡ false → find f rest ≡ Drop
+    pub find-wrong-type : 2 ≤ length rest → f .secondRight (byte rest 1) ≡ false → find f rest ≡ Drop WrongType
     unfolding find
     find-wrong-type two other = simp (some-left, header-there, le-leb 2 (length rest) two, other, pick-true, pick-false)
 
@@ -43,7 +44,7 @@ module _ (f : Format) (rest : List ℕ) where
       second-there : (leb 2 (length rest) && not (f .secondRight (byte rest 1))) ≡ false
       second-there = not-both _ _ (λ two. simp (second (leb-true 2 (length rest) two)))
 
-      pub find-too-long : 5 ≤ length rest → f .longest < f .lengthIn rest → find f rest ≡ Drop
+      pub find-too-long : 5 ≤ length rest → f .longest < f .lengthIn rest → find f rest ≡ Drop TooLong
       unfolding find
       find-too-long five long =
           simp (
@@ -79,7 +80,7 @@ module _ (f : Format) (rest : List ℕ) where
           unfolding frameLength
           whole-there = le-ltb (length rest) (7 + f .lengthIn rest) (rw read at whole)
 
-          pub find-check-wrong : f .checkRight n rest ≡ false → find f rest ≡ Drop
+          pub find-check-wrong : f .checkRight n rest ≡ false → find f rest ≡ Drop WrongCheck
           unfolding find
           find-check-wrong wrong =
               simp (some-left, header-there, second-there, short-there, whole-there, rw read at wrong, pick-true, pick-false)
@@ -88,7 +89,7 @@ module _ (f : Format) (rest : List ℕ) where
             check-there : f .checkRight (f .lengthIn rest) rest ≡ true
             check-there = rw read at right
 
-            pub find-last-wrong : f .endRight n rest ≡ false → find f rest ≡ Drop
+            pub find-last-wrong : f .endRight n rest ≡ false → find f rest ≡ Drop WrongEnd
             unfolding find
             find-last-wrong wrong =
                 simp (some-left, header-there, second-there, short-there, whole-there, check-there, rw read at wrong, pick-true, pick-false)

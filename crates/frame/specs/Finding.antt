@@ -10,8 +10,18 @@ use Rattle.frame.specs.Formats.{Format}
 use Rattle.frame.specs.Frames.{frameLength}
 use Rattle.frame.specs.declared.finding.Found.{Found}
 use Rattle.frame.specs.declared.finding.Found.the-variants.{End, Drop, Wait, Accept}
+use Rattle.frame.specs.declared.finding.Reason.{Reason}
+use Rattle.frame.specs.declared.finding.Reason.the-variants.{NoHeader, WrongType, TooLong, WrongCheck, WrongEnd}
 
--- The rules, in order:
+-- "1 no header, 2 wrong type, 3 too long, 4 wrong check, 5 wrong end"
+unfoldable pub reasonNumber : Reason → ℕ
+reasonNumber NoHeader = 1
+reasonNumber WrongType = 2
+reasonNumber TooLong = 3
+reasonNumber WrongCheck = 4
+reasonNumber WrongEnd = 5
+
+-- The rules, in order; a drop carries its reason, "in the order of the finding rules, check before end":
 --   1. nothing left: answer 1;
 --   2. first byte not BB: drop it;
 --   3. second byte there and not 00: drop the BB;
@@ -23,9 +33,10 @@ unfoldable pub find : Format → List ℕ → Found
 find f rest =
     let n : ℕ = f .lengthIn rest in
     pick (eqb (length rest) 0) End
-    (pick (not (eqb (byte rest 0) (f .head))) Drop
-    (pick (leb 2 (length rest) && not (f .secondRight (byte rest 1))) Drop
-    (pick (leb 5 (length rest) && ltb (f .longest) n) Drop
+    (pick (not (eqb (byte rest 0) (f .head))) (Drop NoHeader)
+    (pick (leb 2 (length rest) && not (f .secondRight (byte rest 1))) (Drop WrongType)
+    (pick (leb 5 (length rest) && ltb (f .longest) n) (Drop TooLong)
     (pick (ltb (length rest) (frameLength n)) Wait
-    (pick (not (f .checkRight n rest && f .endRight n rest)) Drop
-    (Accept n))))))
+    (pick (not (f .checkRight n rest)) (Drop WrongCheck)
+    (pick (not (f .endRight n rest)) (Drop WrongEnd)
+    (Accept n)))))))

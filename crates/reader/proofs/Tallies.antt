@@ -1,46 +1,59 @@
 -- Laws of the tally: when it is full, and what a raised count is.
-use Prim.Native.Nat.{ℕ, _+_}
+use Prim.Native.Nat.{ℕ, zero, suc, _+_, _≤_, _<_}
 use borrow.Author.Tests.{eq-eqb, ne-eqb, eqb-false}
 use lib.Dec.{eqb}
-use mathlib.Core.Bool.{true, false, _||_}
-use mathlib.Core.Path.{_≡_}
-use Rattle.reader.specs.Tallies.{full, limit, raised}
-use Rattle.reader.specs.declared.tally.Tally.{Tally}
-use Rattle.frame.proofs.Picks.{pick-false}
+use lib.ListN.{length, getD}
+use mathlib.Core.Bool.{Bool, true, false, _||_}
+use mathlib.Core.List.{List, [], _∷_}
+use mathlib.Core.Path.{_≡_, refl}
+use native.Mathlib.Omega.{arith}
+use Rattle.frame.proofs.Picks.{pick-false, by-test}
 use Rattle.frame.proofs.Tests.{or-neither}
+use Rattle.frame.specs.Frames.{sum}
+use Rattle.reader.specs.Tallies.{countsOf, limit, anyAtLimit, full, raised}
+use Rattle.reader.specs.declared.tally.Tally.{Tally}
 
-pub full-by-good : (t : Tally) → t .good ≡ limit → full t ≡ true
-unfolding full
-full-by-good t e = simp (eq-eqb (t .good) limit e)
+-- ---- counts, one by one
 
-pub full-by-error : (t : Tally) → (t .good ≡ limit → ⊥) → t .error ≡ limit → full t ≡ true
-unfolding full
-full-by-error t g e = simp (ne-eqb (t .good) limit g, eq-eqb (t .error) limit e)
+pub at-limit : (n : ℕ) (counts : List ℕ) → n ≡ limit → anyAtLimit (n ∷ counts) ≡ true
+unfolding anyAtLimit
+at-limit n counts e = simp (eq-eqb n limit e)
 
-pub full-by-dropped : (t : Tally) → (t .good ≡ limit → ⊥) → (t .error ≡ limit → ⊥) → full t ≡ eqb (t .dropped) limit
+pub not-at-limit : (n : ℕ) (counts : List ℕ) {b : Bool} → (n ≡ limit → ⊥) → anyAtLimit counts ≡ b → anyAtLimit (n ∷ counts) ≡ b
+unfolding anyAtLimit
+not-at-limit n counts d e = simp (ne-eqb n limit d) e
+
+pub last-count : (n : ℕ) → anyAtLimit (n ∷ []) ≡ eqb n limit
+unfolding anyAtLimit
+last-count n = by-cases (eqb n limit)
+  where
+    by-cases : (b : Bool) → (b || false) ≡ b
+    by-cases true = refl
+    by-cases false = refl
+
+-- no count is at the limit where all together are below it
+pub few-counts : (counts : List ℕ) (n : ℕ) → sum counts ≤ n → n < limit → anyAtLimit counts ≡ false
+unfolding anyAtLimit sum
+few-counts [] n few small = refl
+few-counts (m ∷ counts) n few small = simp (ne-eqb m limit (λ e. omega arith)) (few-counts counts n (omega arith) small)
+
+-- no count of a tally that is not full is at the limit: good 0, error 1, and the five reasons from 2 on
+not-at : (counts : List ℕ) → anyAtLimit counts ≡ false → (k : ℕ) → k < length counts → getD counts k 0 ≡ limit → ⊥
+unfolding anyAtLimit
+not-at [] h k there = absurd (omega arith)
+not-at (n ∷ counts) h zero there = eqb-false _ _ (or-neither (eqb n limit) (anyAtLimit counts) h .0)
+not-at (n ∷ counts) h (suc k) there = not-at counts (or-neither (eqb n limit) (anyAtLimit counts) h .1) k (omega arith)
+
+pub not-full : (t : Tally) → full t ≡ false → (k : ℕ) → k < 7 → getD (countsOf t) k 0 ≡ limit → ⊥
 unfolding full
-full-by-dropped t g e = simp (ne-eqb (t .good) limit g, ne-eqb (t .error) limit e)
+not-full t h k there = not-at (countsOf t) h k there
+
+-- ---- a raised count
 
 pub raised-below : (n : ℕ) → (n ≡ limit → ⊥) → raised n ≡ n + 1
 unfolding raised
 raised-below n h = simp (ne-eqb n limit h, pick-false)
 
--- no count of a tally that is not full is at the limit
-module _ (t : Tally) (h : full t ≡ false) where
-  pub not-full-good : t .good ≡ limit → ⊥
-  unfolding full
-  not-full-good = eqb-false _ _ (or-neither (eqb (t .good) limit) (eqb (t .error) limit || eqb (t .dropped) limit) h .0)
-
-  pub not-full-error : t .error ≡ limit → ⊥
-  unfolding full
-  not-full-error =
-      eqb-false _ _
-      (or-neither (eqb (t .error) limit) (eqb (t .dropped) limit)
-      (or-neither (eqb (t .good) limit) (eqb (t .error) limit || eqb (t .dropped) limit) h .1) .0)
-
-  pub not-full-dropped : t .dropped ≡ limit → ⊥
-  unfolding full
-  not-full-dropped =
-      eqb-false _ _
-      (or-neither (eqb (t .error) limit) (eqb (t .dropped) limit)
-      (or-neither (eqb (t .good) limit) (eqb (t .error) limit || eqb (t .dropped) limit) h .1) .1)
+pub raised-most : (n : ℕ) → raised n ≤ n + 1
+unfolding raised
+raised-most n = by-test (λ (k : ℕ). k ≤ n + 1) (eqb n limit) (λ h. omega arith) (λ h. omega arith)

@@ -55,7 +55,7 @@ unfolding unchanged dropped answered numberOf
 step-framed c s =
     step-cases c s (λ (x : Step). x .outcome ≡ Answered → Framed (x .length) (length (x .next .output)))
     (λ o m n e. absurd (m (ap numberOf e)))
-    (λ r some e. absurd (omega (arith, ap numberOf e)))
+    (λ r why found some e. absurd (omega (arith, ap numberOf e)))
     (λ r pl a e.
     let f = framed c s r pl a in
     record {

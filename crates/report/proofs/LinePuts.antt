@@ -14,7 +14,7 @@ use Rattle.frame.specs.Bytes.{part}
 use Rattle.frame.specs.Copying.{copied}
 use Rattle.report.proofs.Puts.{put-join, byte-put}
 use Rattle.report.specs.Digits.{hexByte, decimal}
-use Rattle.report.specs.Lines.{dropWord, goodWord, errorWord, droppedWord, leftWord, refusedWord, dropLine, separator, frameLine, countPart, tallyPart, countsLine, refusedLine}
+use Rattle.report.specs.Lines.{dropWord, goodWord, errorWord, droppedWord, spaceWord, leftWord, refusedWord, dropLine, separator, frameLine, countPart, twoCounts, tallyPart, countsLine, refusedLine}
 use Rattle.report.specs.Writing.{Line}
 
 pub text-put : (text buffer after : List ℕ) (at : ℕ) → at + length text ≤ length buffer → after ≡ copied text 0 (length text) buffer at
@@ -34,13 +34,21 @@ module _ (before : List ℕ) (at : ℕ) where
   unfolding countPart
   count-put word n middle after next last = put-join word (decimal n) at before middle after next last
 
-  pub tally-put : (t : Tally) (one two after : List ℕ) (second third last : ℕ) → Put (countPart goodWord (t .good)) at before one second
-      → Put (countPart errorWord (t .error)) second one two third → Put (countPart droppedWord (t .dropped)) third two after last
+  pub two-put : (first : List ℕ) (m : ℕ) (second : List ℕ) (n : ℕ) (middle after : List ℕ) (next last : ℕ) → Put (countPart first m) at before middle next
+      → Put (countPart second n) next middle after last → Put (twoCounts first m second n) at before after last
+  unfolding twoCounts
+  two-put first m second n middle after next last = put-join (countPart first m) (countPart second n) at before middle after next last
+
+  pub tally-put : (t : Tally) (one two three after : List ℕ) (second third fourth last : ℕ)
+      → Put (twoCounts goodWord (t .good) errorWord (t .error)) at before one second
+      → Put (twoCounts droppedWord (t .header) spaceWord (t .kind)) second one two third
+      → Put (twoCounts spaceWord (t .long) spaceWord (t .check)) third two three fourth
+      → Put (countPart spaceWord (t .end)) fourth three after last
       → Put (tallyPart t) at before after last
   unfolding tallyPart
-  tally-put t one two after second third last g e d =
-      put-join (countPart goodWord (t .good) ++ countPart errorWord (t .error)) (countPart droppedWord (t .dropped)) at before two after third last
-      (put-join (countPart goodWord (t .good)) (countPart errorWord (t .error)) at before one two second third g e) d
+  tally-put t one two three after second third fourth last a b c d =
+      put-join _ _ at before three after fourth last
+      (put-join _ _ at before two three third fourth (put-join _ _ at before one two second third a b) c) d
 
   -- a piece, and the newline behind it
   closed : (piece after : List ℕ) (last : ℕ) → Put piece at before after last → last + 1 ≤ at + 408 → Line (piece ++ (10 ∷ [])) at before (set after last 10) (last + 1)

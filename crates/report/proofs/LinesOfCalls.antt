@@ -2,7 +2,7 @@
 use Prim.Native.Nat.{ℕ, _-_, _≤_}
 use lib.Dec.{eqb}
 use lib.ListN.{length, take}
-use mathlib.Core.List.{List}
+use mathlib.Core.List.{List, [], _∷_, _++_, append-assoc}
 use mathlib.Core.Logic.{_≢_, ⊎-elim}
 use mathlib.Core.Path.{_≡_, refl, ap, sym, _∙_}
 use native.Mathlib.Omega.{arith}
@@ -13,31 +13,33 @@ use Rattle.bench.specs.declared.outcome.Outcome.{Outcome}
 use Rattle.bench.specs.declared.outcome.Outcome.the-variants.{Answered, AtEnd, Incomplete, Dropped, PastEnd, BadImage, ShortOutput, FullTally}
 use Rattle.reader.specs.declared.tally.Tally.{Tally}
 use Rattle.frame.specs.Bytes.{pick, byte}
-use Rattle.report.specs.Claims.{FrameLines, DropLines, CountLines, RefusedLines}
-use Rattle.report.specs.Lines.{frameLine, countsLine, refusedLine, lineFor, lineOf}
+use Rattle.frame.specs.declared.finding.Reason.the-variants.{NoHeader}
+use Rattle.report.specs.Claims.{FrameLines, DropLines, CountLines, CountsInOrder, RefusedLines}
+use Rattle.report.specs.Lines.{goodWord, errorWord, droppedWord, spaceWord, leftWord, frameLine, countPart, twoCounts, tallyPart, countsLine, refusedLine, lineFor, lineOf}
 
--- the outcome that has a number
+-- an outcome that has a number; a line does not tell the reason of a drop
 outcomeOf : ℕ → Outcome
 outcomeOf n =
     pick (eqb n 0) Answered
     (pick (eqb n 1) AtEnd
     (pick (eqb n 2) Incomplete
-    (pick (eqb n 3) Dropped
+    (pick (eqb n 3) (Dropped NoHeader)
     (pick (eqb n 10) PastEnd
     (pick (eqb n 11) BadImage
     (pick (eqb n 12) ShortOutput
     FullTally))))))
 
-named : (o : Outcome) → outcomeOf (numberOf o) ≡ o
-unfolding outcomeOf numberOf pick
-named Answered = refl
-named AtEnd = refl
-named Incomplete = refl
-named Dropped = refl
-named PastEnd = refl
-named BadImage = refl
-named ShortOutput = refl
-named FullTally = refl
+module _ (frame : List ℕ) (b : ℕ) (t : Tally) (left : ℕ) where
+  by-number : (o : Outcome) → lineFor o frame b t left ≡ lineFor (outcomeOf (numberOf o)) frame b t left
+  unfolding outcomeOf numberOf pick lineFor
+  by-number Answered = refl
+  by-number AtEnd = refl
+  by-number Incomplete = refl
+  by-number (Dropped r) = refl
+  by-number PastEnd = refl
+  by-number BadImage = refl
+  by-number ShortOutput = refl
+  by-number FullTally = refl
 
 line-as : (input : List ℕ) (s : State) (n : ℕ) → answerOf (call input) s ≡ n
     → lineOf input s (step (call input) s)
@@ -46,8 +48,8 @@ line-as : (input : List ℕ) (s : State) (n : ℕ) → answerOf (call input) s �
 unfolding lineOf
 line-as input s n e =
     let x : Step = step (call input) s in
-    ap (λ (o : Outcome). lineFor o (take (x .length) (x .next .output)) (byte input (s .reader .cursor)) (x .next .reader .tally) (length input - x .next .reader .cursor))
-    (sym (named (x .outcome)) ∙ ap outcomeOf e)
+    by-number _ _ _ _ (x .outcome)
+    ∙ ap (λ (k : ℕ). lineFor (outcomeOf k) (take (x .length) (x .next .output)) (byte input (s .reader .cursor)) (x .next .reader .tally) (length input - x .next .reader .cursor)) e
 
 of-refused : (frame : List ℕ) (b : ℕ) (t : Tally) (left : ℕ) (o : Outcome) → 10 ≤ numberOf o → lineFor o frame b t left ≡ refusedLine (numberOf o)
 unfolding lineFor numberOf
@@ -56,7 +58,7 @@ of-refused frame b t left BadImage h = refl
 of-refused frame b t left ShortOutput h = refl
 of-refused frame b t left FullTally h = refl
 of-refused frame b t left Answered h = absurd (omega arith)
-of-refused frame b t left Dropped h = absurd (omega arith)
+of-refused frame b t left (Dropped r) h = absurd (omega arith)
 of-refused frame b t left AtEnd h = absurd (omega arith)
 of-refused frame b t left Incomplete h = absurd (omega arith)
 
@@ -83,3 +85,14 @@ count-lines input s =
 pub refused-lines : RefusedLines
 unfolding lineOf
 refused-lines input s h = of-refused _ _ _ _ (step (call input) s .outcome) h
+
+-- ---- the last line
+
+regroup : (a b c d e f g l n : List ℕ) → (((((a ++ b) ++ (c ++ d)) ++ (e ++ f)) ++ g) ++ l) ++ n ≡ a ++ (b ++ (c ++ (d ++ (e ++ (f ++ (g ++ (l ++ n)))))))
+regroup a b c d e f g l n = simp append-assoc
+
+pub counts-in-order : CountsInOrder
+unfolding goodWord errorWord droppedWord spaceWord leftWord countPart twoCounts tallyPart countsLine
+counts-in-order t left =
+    regroup (countPart goodWord (t .good)) (countPart errorWord (t .error)) (countPart droppedWord (t .header)) (countPart spaceWord (t .kind))
+    (countPart spaceWord (t .long)) (countPart spaceWord (t .check)) (countPart spaceWord (t .end)) (countPart leftWord left) (10 ∷ [])

@@ -20,7 +20,7 @@ use Rattle.report.specs.Report.{stepsBy, steps, stepsFrom, linesOf, repo
 pub ends-is : (x : Step) (o : Outcome) → x .outcome ≡ o → ends o ≡ not (takes x)
 unfolding ends takes numberOf
 ends-is x Answered e = simp e
-ends-is x Dropped e = simp e
+ends-is x (Dropped r) e = simp e
 ends-is x AtEnd e = simp e
 ends-is x Incomplete e = simp e
 ends-is x PastEnd e = simp e

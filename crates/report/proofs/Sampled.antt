@@ -4,12 +4,12 @@ use Rattle.bench.proofs.Computed.{everything}
 use Rattle.bench.specs.Machine.{work, after}
 use Rattle.report.specs.Claims.{SampleReport, SampleImage, EmptyImage}
 use Rattle.report.specs.Digits.{hexDigit, hexByte, widthBy, width, digits, decimal}
-use Rattle.report.specs.Lines.{dropWord, goodWord, errorWord, droppedWord, leftWord, refusedWord, tooLongLine, dropLine, separator, frameLine, countPart, tallyPart, countsLine, refusedLine, lineFor, lineOf, ends}
+use Rattle.report.specs.Lines.{dropWord, goodWord, errorWord, droppedWord, spaceWord, leftWord, refusedWord, tooLongLine, dropLine, separator, frameLine, countPart, twoCounts, tallyPart, countsLine, refusedLine, lineFor, lineOf, ends}
 use Rattle.report.specs.Report.{stepsBy, steps, stepsFrom, linesOf, reportFrom, lastState, tooLong, fresh, reportOf}
 
 -- all that the report is made of beside the machine, opened at once
 opened : Unit {0}
-unfolding everything work hexDigit hexByte widthBy width digits decimal dropWord goodWord errorWord droppedWord leftWord refusedWord tooLongLine dropLine separator frameLine countPart tallyPart countsLine refusedLine lineFor lineOf ends stepsBy steps stepsFrom linesOf reportFrom tooLong fresh reportOf
+unfolding everything work hexDigit hexByte widthBy width digits decimal dropWord goodWord errorWord droppedWord spaceWord leftWord refusedWord tooLongLine dropLine separator frameLine countPart twoCounts tallyPart countsLine refusedLine lineFor lineOf ends stepsBy steps stepsFrom linesOf reportFrom tooLong fresh reportOf
 opened = tt
 
 pub sample-report : SampleReport

@@ -7,12 +7,13 @@ use mathlib.Core.Logic.{_⊎_, _≢_}
 use mathlib.Core.Path.{_≡_}
 use lib.Dec.{eqb}
 use lib.ListN.{length, drop, replicate}
-use Rattle.bench.specs.Claims.{answerOf, count, isDropped, takes}
+use Rattle.bench.specs.Claims.{answerOf, count, takes}
 use Rattle.bench.specs.Machine.{State, call, Step, numberOf, actIn, restOf, step, run, after}
 use Rattle.bench.specs.Sample.{sample, killed}
 use Rattle.bench.specs.declared.outcome.Outcome.{Outcome}
 use Rattle.bench.specs.declared.outcome.Outcome.the-variants.{Answered, AtEnd, Incomplete, Dropped, PastEnd, BadImage, ShortOutput, FullTally}
 use Rattle.frame.specs.Bytes.{byte, number}
+use Rattle.reader.specs.declared.tally.Tally.{Tally}
 use Rattle.report.specs.Digits.{hexDigit, decimal}
 use Rattle.report.specs.Lines.{tooLongLine, dropLine, frameLine, countsLine, refusedLine, longestLine, lineOf}
 use Rattle.report.specs.Pieces.{pieceOf, leftBy, overBy, pieces}
@@ -29,14 +30,14 @@ sampleCommands = 0x41 ∷ 0xBB ∷ 0x00 ∷ 0x65 ∷ 0x00 ∷ 0x04 ∷ 0x00 ∷ 
 
 -- `DROP 41`
 -- `BB 01 65 00 10 0E 34 00 30 75 1F EB 70 5C 59 04 E3 D5 0D 70 00 C5 7E`
--- `GOOD 1 ERROR 0 DROPPED 1 LEFT 0`
+-- `GOOD 1 ERROR 0 DROPPED 1 0 0 0 0 LEFT 0`
 abbrev pub sampleReport : List ℕ
 sampleReport =
     68 ∷ 82 ∷ 79 ∷ 80 ∷ 32 ∷ 52 ∷ 49 ∷ 10 ∷ 66 ∷ 66 ∷ 32 ∷ 48 ∷ 49 ∷ 32 ∷ 54 ∷ 53 ∷ 32 ∷ 48 ∷ 48 ∷ 32 ∷ 49 ∷ 48 ∷ 32 ∷ 48
     ∷ 69 ∷ 32 ∷ 51 ∷ 52 ∷ 32 ∷ 48 ∷ 48 ∷ 32 ∷ 51 ∷ 48 ∷ 32 ∷ 55 ∷ 53 ∷ 32 ∷ 49 ∷ 70 ∷ 32 ∷ 69 ∷ 66 ∷ 32 ∷ 55 ∷ 48 ∷ 32 ∷ 53
     ∷ 67 ∷ 32 ∷ 53 ∷ 57 ∷ 32 ∷ 48 ∷ 52 ∷ 32 ∷ 69 ∷ 51 ∷ 32 ∷ 68 ∷ 53 ∷ 32 ∷ 48 ∷ 68 ∷ 32 ∷ 55 ∷ 48 ∷ 32 ∷ 48 ∷ 48 ∷ 32 ∷ 67
     ∷ 53 ∷ 32 ∷ 55 ∷ 69 ∷ 10 ∷ 71 ∷ 79 ∷ 79 ∷ 68 ∷ 32 ∷ 49 ∷ 32 ∷ 69 ∷ 82 ∷ 82 ∷ 79 ∷ 82 ∷ 32 ∷ 48 ∷ 32 ∷ 68 ∷ 82 ∷ 79 ∷ 80
-    ∷ 80 ∷ 69 ∷ 68 ∷ 32 ∷ 49 ∷ 32 ∷ 76 ∷ 69 ∷ 70 ∷ 84 ∷ 32 ∷ 48 ∷ 10 ∷ []
+    ∷ 80 ∷ 69 ∷ 68 ∷ 32 ∷ 49 ∷ 32 ∷ 48 ∷ 32 ∷ 48 ∷ 32 ∷ 48 ∷ 32 ∷ 48 ∷ 32 ∷ 76 ∷ 69 ∷ 70 ∷ 84 ∷ 32 ∷ 48 ∷ 10 ∷ []
 
 -- "For the sample tag and input .., whole"
 abbrev pub SampleReport : Type 0
@@ -106,6 +107,22 @@ CountLines =
     (input : List ℕ) (s : State) → (answerOf (call input) s ≡ 1) ⊎ (answerOf (call input) s ≡ 2)
     → lineOf input s (step (call input) s) ≡ countsLine (s .reader .tally) (length input - s .reader .cursor)
 
+-- "GOOD, ERROR, DROPPED with the five numbers in order, LEFT": `GOOD `, ` ERROR `, ` DROPPED `, a space before each further reason, ` LEFT ` and the
+-- newline
+abbrev pub CountsInOrder : Type 0
+CountsInOrder =
+    (t : Tally) (left : ℕ)
+    → countsLine t left
+    ≡ ((71 ∷ 79 ∷ 79 ∷ 68 ∷ 32 ∷ []) ++ decimal (t .good))
+    ++ (((32 ∷ 69 ∷ 82 ∷ 82 ∷ 79 ∷ 82 ∷ 32 ∷ []) ++ decimal (t .error))
+    ++ (((32 ∷ 68 ∷ 82 ∷ 79 ∷ 80 ∷ 80 ∷ 69 ∷ 68 ∷ 32 ∷ []) ++ decimal (t .header))
+    ++ (((32 ∷ []) ++ decimal (t .kind))
+    ++ (((32 ∷ []) ++ decimal (t .long))
+    ++ (((32 ∷ []) ++ decimal (t .check))
+    ++ (((32 ∷ []) ++ decimal (t .end))
+    ++ (((32 ∷ 76 ∷ 69 ∷ 70 ∷ 84 ∷ 32 ∷ []) ++ decimal left)
+    ++ (10 ∷ []))))))))
+
 -- "A call answered 10 to 13 gives only `REFUSED` and the number."
 abbrev pub RefusedLines : Type 0
 RefusedLines =
@@ -145,20 +162,26 @@ abbrev pub BadImageReport : Type 0
 BadImageReport =
     (commands image : List ℕ) → tooLong (length commands) (length image) ≡ false → good image ≡ false → reportOf commands image ≡ refusedLine 11
 
--- After any number of calls GOOD and ERROR together are the number of frame lines, and DROPPED that of DROP lines.
+-- After any number of calls GOOD and ERROR together are the number of frame lines, and the five numbers of DROPPED together that of DROP lines.
 unfoldable pub isFrame : Step → Bool
 isFrame x = eqb (numberOf (x .outcome)) 0
+
+unfoldable pub isDrop : Step → Bool
+isDrop x = eqb (numberOf (x .outcome)) 3
+
+abbrev pub drops : Tally → ℕ
+drops t = t .header + t .kind + t .long + t .check + t .end
 
 abbrev pub CountsAreLines : Type 0
 CountsAreLines =
     (k : ℕ) (commands image : List ℕ)
     → (stateBy k commands image .reader .tally .good + stateBy k commands image .reader .tally .error ≡ count isFrame (made k commands image))
-    × (stateBy k commands image .reader .tally .dropped ≡ count isDropped (made k commands image))
+    × (drops (stateBy k commands image .reader .tally) ≡ count isDrop (made k commands image))
 
 -- What was dropped, what the commands took ("A frame has 7 + PL bytes.") and LEFT are together the length of the input.
 unfoldable pub tookBy : Outcome → ℕ → ℕ
 tookBy Answered pl = 7 + pl
-tookBy Dropped pl = 1
+tookBy (Dropped r) pl = 1
 tookBy AtEnd pl = 0
 tookBy Incomplete pl = 0
 tookBy PastEnd pl = 0

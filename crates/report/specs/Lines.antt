@@ -28,6 +28,10 @@ errorWord = 32 ∷ 69 ∷ 82 ∷ 82 ∷ 79 ∷ 82 ∷ 32 ∷ []
 unfoldable pub droppedWord : List ℕ
 droppedWord = 32 ∷ 68 ∷ 82 ∷ 79 ∷ 80 ∷ 80 ∷ 69 ∷ 68 ∷ 32 ∷ []
 
+-- " "
+unfoldable pub spaceWord : List ℕ
+spaceWord = 32 ∷ []
+
 -- " LEFT "
 unfoldable pub leftWord : List ℕ
 leftWord = 32 ∷ 76 ∷ 69 ∷ 70 ∷ 84 ∷ 32 ∷ []
@@ -60,12 +64,18 @@ unfoldable pub frameLine : List ℕ → List ℕ
 frameLine [] = []
 frameLine (b ∷ bytes) = (hexByte b ++ (separator bytes ∷ [])) ++ frameLine bytes
 
--- `GOOD 1 ERROR 0 DROPPED 1 LEFT 0`
+-- `GOOD 1 ERROR 0 DROPPED 1 0 0 0 0 LEFT 0`: "GOOD, ERROR, DROPPED with the five numbers in order, LEFT"
 unfoldable pub countPart : List ℕ → ℕ → List ℕ
 countPart word n = word ++ decimal n
 
+unfoldable pub twoCounts : List ℕ → ℕ → List ℕ → ℕ → List ℕ
+twoCounts first m second n = countPart first m ++ countPart second n
+
 unfoldable pub tallyPart : Tally → List ℕ
-tallyPart t = (countPart goodWord (t .good) ++ countPart errorWord (t .error)) ++ countPart droppedWord (t .dropped)
+tallyPart t =
+    ((twoCounts goodWord (t .good) errorWord (t .error) ++ twoCounts droppedWord (t .header) spaceWord (t .kind))
+    ++ twoCounts spaceWord (t .long) spaceWord (t .check))
+    ++ countPart spaceWord (t .end)
 
 unfoldable pub countsLine : Tally → ℕ → List ℕ
 countsLine t left = (tallyPart t ++ countPart leftWord left) ++ (10 ∷ [])
@@ -84,7 +94,7 @@ longestLine = 408
 -- remains at answer 1 or 2."
 unfoldable pub lineFor : Outcome → List ℕ → ℕ → Tally → ℕ → List ℕ
 lineFor Answered frame b t left = frameLine frame
-lineFor Dropped frame b t left = dropLine b
+lineFor (Dropped r) frame b t left = dropLine b
 lineFor AtEnd frame b t left = countsLine t left
 lineFor Incomplete frame b t left = countsLine t left
 lineFor PastEnd frame b t left = refusedLine (numberOf PastEnd)
@@ -100,7 +110,7 @@ lineOf input s x =
 -- the report goes on after an answer 0 or 3, and ends with any other line
 unfoldable pub ends : Outcome → Bool
 ends Answered = false
-ends Dropped = false
+ends (Dropped r) = false
 ends AtEnd = true
 ends Incomplete = true
 ends PastEnd = true

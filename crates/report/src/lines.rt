@@ -7,7 +7,7 @@ ghost use mathlib.Core.Path.{_≡_};
 ghost use Prim.Native.Nat.{_+_, _≤_, _<_};
 ghost use lib.ListN.{length, drop};
 ghost use Rattle.frame.specs.Putting.{Put};
-ghost use Rattle.report.specs.Lines.{dropLine, separator, frameLine, countPart, tallyPart, countsLine, refusedLine, longestLine};
+ghost use Rattle.report.specs.Lines.{dropLine, separator, frameLine, countPart, twoCounts, tallyPart, countsLine, refusedLine, longestLine};
 ghost use Rattle.report.specs.Writing.{Line};
 
 pub(crate) fn put_text(buffer: &mut [u8], at: usize, text: &[u8]) -> usize
@@ -28,15 +28,32 @@ fn put_count(buffer: &mut [u8], at: usize, word: &[u8], n: u64) -> usize
     put_decimal(buffer, next, n)
 }
 
-// The three counts of the tally.
-fn put_tally(buffer: &mut [u8], at: usize, tally: Tally) -> usize
-    requires { ⌜ at + 81 ≤ length (now buffer) ⌝ }
-    ensures { λ r. ⌜ Put (tallyPart tally) at (now (buffer .entry)) (now (buffer .exit)) r ⌝ }
-    ensures { λ r. ⌜ r ≤ at + 81 ⌝ }
+// Two words, and a number behind each.
+fn put_two(buffer: &mut [u8], at: usize, first: &[u8], m: u64, second: &[u8], n: u64) -> usize
+    requires { ⌜ at + length (now first) + 20 + length (now second) + 20 ≤ length (now buffer) ⌝ }
+    ensures { λ r. ⌜ Put (twoCounts (now (first .entry)) m (now (second .entry)) n) at (now (buffer .entry)) (now (buffer .exit)) r ⌝ }
+    ensures { λ r. ⌜ r ≤ at + length (now (first .entry)) + 20 + length (now (second .entry)) + 20 ⌝ }
 {
-    let second = put_count(buffer, at, b"GOOD ", tally.good as u64);
-    let third = put_count(buffer, second, b" ERROR ", tally.error as u64);
-    put_count(buffer, third, b" DROPPED ", tally.dropped as u64)
+    let next = put_count(buffer, at, first, m);
+    put_count(buffer, next, second, n)
+}
+
+// The seven counts of the tally, the reasons of drops in their order.
+fn put_tally(buffer: &mut [u8], at: usize, tally: Tally) -> usize
+    requires { ⌜ at + 165 ≤ length (now buffer) ⌝ }
+    ensures { λ r. ⌜ Put (tallyPart tally) at (now (buffer .entry)) (now (buffer .exit)) r ⌝ }
+    ensures { λ r. ⌜ r ≤ at + 165 ⌝ }
+{
+    let good = tally.good as u64;
+    let error = tally.error as u64;
+    let header = tally.header as u64;
+    let kind = tally.kind as u64;
+    let long = tally.long as u64;
+    let check = tally.check as u64;
+    let second = put_two(buffer, at, b"GOOD ", good, b" ERROR ", error);
+    let third = put_two(buffer, second, b" DROPPED ", header, b" ", kind);
+    let last = put_two(buffer, third, b" ", long, b" ", check);
+    put_count(buffer, last, b" ", tally.end as u64)
 }
 
 pub(crate) fn put_counts(buffer: &mut [u8], at: usize, tally: Tally, left: usize) -> usize

@@ -62,7 +62,7 @@ fn is_last(outcome: Outcome) -> bool
 {
     match outcome {
         Outcome::Answered => false,
-        Outcome::Dropped => false,
+        Outcome::Dropped(_) => false,
         Outcome::AtEnd => true,
         Outcome::Incomplete => true,
         Outcome::PastEnd => true,
@@ -90,7 +90,7 @@ fn put_line(
     let left = remaining(input.len(), reader.cursor);
     match outcome {
         Outcome::Answered => put_frame(buffer, at, &output[..length]),
-        Outcome::Dropped => put_drop(buffer, at, byte_at(input, cursor)),
+        Outcome::Dropped(_) => put_drop(buffer, at, byte_at(input, cursor)),
         Outcome::AtEnd => put_counts(buffer, at, reader.tally, left),
         Outcome::Incomplete => put_counts(buffer, at, reader.tally, left),
         Outcome::PastEnd => put_refused(buffer, at, 10),

@@ -11,11 +11,11 @@ enum-told c = search needs
 enum-told-2 : tie.Need-enum-told-2
 enum-told-2 c = search needs
 
-enum-told-3 : tie.Need-enum-told-3
-enum-told-3 c = search needs
-
 enum-known-found : tie.Need-enum-known-found
 enum-known-found c = search needs
+
+enum-known-found-2 : tie.Need-enum-known-found-2
+enum-known-found-2 c = search needs
 
 returns : tie.Need-returns
 unfolding jobFor
@@ -27,11 +27,11 @@ returns-2 c = sym (ap jobFor (c .enum-told2 .given .1))
 
 returns-3 : tie.Need-returns-3
 unfolding jobFor
-returns-3 c = sym (ap jobFor (c .enum-told3 .given .1))
+returns-3 c = sym (ap jobFor (c .before .found .given .1))
 
 returns-4 : tie.Need-returns-4
 unfolding jobFor
-returns-4 c = sym (ap jobFor (c .before .found .given .1))
+returns-4 c = sym (ap jobFor (c .before .found2 .given .1))
 
 pub job-for-spec : {M : Type 1} → statement M
 job-for-spec =
@@ -39,8 +39,8 @@ job-for-spec =
     (tie.spec
     enum-told
     enum-told-2
-    enum-told-3
     enum-known-found
+    enum-known-found-2
     returns
     returns-2
     returns-3

@@ -1,10 +1,55 @@
--- `put_tally` meets its contract: the three counts behind each other.
+-- `put_tally` meets its contract: the seven counts behind each other.
 use native.Mathlib.Omega.{arith}
 use Rattle.report.proofs.LinePuts.{tally-put}
-use Rattle.report.specs.Lines.{goodWord, errorWord, droppedWord}
+use Rattle.report.specs.Lines.{goodWord, errorWord, droppedWord, spaceWord}
 use borrow.Author.Needs.{needs}
 use Rattle.report.proofs.lines.put_tally.Statement.{statement}
 use Rattle.report.proofs.lines.put_tally.Tie as tie
+
+cast-good : tie.Need-cast-good
+cast-good c = search needs
+
+cast-error : tie.Need-cast-error
+cast-error c = search needs
+
+cast-header : tie.Need-cast-header
+cast-header c = search needs
+
+cast-kind : tie.Need-cast-kind
+cast-kind c = search needs
+
+cast-long : tie.Need-cast-long
+cast-long c = search needs
+
+cast-check : tie.Need-cast-check
+cast-check c = search needs
+
+slice-aggregate-put-two : tie.Need-slice-aggregate-put-two
+slice-aggregate-put-two c = search needs
+
+slice-aggregate-put-two-2 : tie.Need-slice-aggregate-put-two-2
+slice-aggregate-put-two-2 c = search needs
+
+put-two-requires : tie.Need-put-two-requires
+put-two-requires c κs = search needs
+
+slice-aggregate-put-two-3 : tie.Need-slice-aggregate-put-two-3
+slice-aggregate-put-two-3 c = search needs
+
+slice-aggregate-put-two-4 : tie.Need-slice-aggregate-put-two-4
+slice-aggregate-put-two-4 c = search needs
+
+put-two-requires-2 : tie.Need-put-two-requires-2
+put-two-requires-2 c κs = search needs
+
+slice-aggregate-put-two-5 : tie.Need-slice-aggregate-put-two-5
+slice-aggregate-put-two-5 c = search needs
+
+slice-aggregate-put-two-6 : tie.Need-slice-aggregate-put-two-6
+slice-aggregate-put-two-6 c = search needs
+
+put-two-requires-3 : tie.Need-put-two-requires-3
+put-two-requires-3 c κs = search needs
 
 slice-aggregate-put-count : tie.Need-slice-aggregate-put-count
 slice-aggregate-put-count c = search needs
@@ -13,52 +58,58 @@ cast-put-count : tie.Need-cast-put-count
 cast-put-count c = search needs
 
 put-count-requires : tie.Need-put-count-requires
-put-count-requires c κs = search needs
-
-slice-aggregate-put-count-2 : tie.Need-slice-aggregate-put-count-2
-slice-aggregate-put-count-2 c = search needs
-
-cast-put-count-2 : tie.Need-cast-put-count-2
-cast-put-count-2 c = search needs
-
-put-count-requires-2 : tie.Need-put-count-requires-2
-put-count-requires-2 c κs = search needs
-
-slice-aggregate-put-count-3 : tie.Need-slice-aggregate-put-count-3
-slice-aggregate-put-count-3 c = search needs
-
-cast-put-count-3 : tie.Need-cast-put-count-3
-cast-put-count-3 c = search needs
-
-put-count-requires-3 : tie.Need-put-count-requires-3
-put-count-requires-3 c κs = search needs
+put-count-requires c κs =
+    let third = c .before .before .before .before .before in
+    let second = third .before .before .before .before .before .before in
+    let first = second .before .before .before .before .before .before in
+    let start = first .before .before .before .before .before .before .before .before .before .before .before in
+    omega (
+      arith,
+      start .pre,
+      first .put-two .ensures .1,
+      second .put-two2 .ensures .1,
+      third .put-two3 .ensures .1,
+      first .put-two .kept .0,
+      second .put-two2 .kept .0,
+      third .put-two3 .kept .0,
+    )
 
 same-length : tie.Need-same-length
 same-length c = search needs
 
 returns : tie.Need-returns
-unfolding goodWord errorWord droppedWord
+unfolding goodWord errorWord droppedWord spaceWord
 returns c =
-    let third = c .before .before in
+    let last = c .before .before in
+    let third = last .before .before .before .before .before .before in
     let second = third .before .before .before .before .before .before in
     let first = second .before .before .before .before .before .before in
-    let t = first .before .before .before .before .before .args .tally in (
-      tally-put _ _ t _ _ _ _ _ _ (first .put-count .ensures .0) (second .put-count2 .ensures .0) (third .put-count3 .ensures .0),
-      omega (arith, first .put-count .ensures .1, second .put-count2 .ensures .1, third .put-count3 .ensures .1),
+    let t = first .before .before .before .before .before .before .before .before .before .before .before .args .tally in (
+      tally-put _ _ t _ _ _ _ _ _ _ _ (first .put-two .ensures .0) (second .put-two2 .ensures .0) (third .put-two3 .ensures .0) (last .put-count .ensures .0),
+      omega (arith, first .put-two .ensures .1, second .put-two2 .ensures .1, third .put-two3 .ensures .1, last .put-count .ensures .1),
     )
 
 pub put-tally-spec : {M : Type 1} → statement M
 put-tally-spec =
     tie.close
     (tie.spec
+    cast-good
+    cast-error
+    cast-header
+    cast-kind
+    cast-long
+    cast-check
+    slice-aggregate-put-two
+    slice-aggregate-put-two-2
+    put-two-requires
+    slice-aggregate-put-two-3
+    slice-aggregate-put-two-4
+    put-two-requires-2
+    slice-aggregate-put-two-5
+    slice-aggregate-put-two-6
+    put-two-requires-3
     slice-aggregate-put-count
     cast-put-count
     put-count-requires
-    slice-aggregate-put-count-2
-    cast-put-count-2
-    put-count-requires-2
-    slice-aggregate-put-count-3
-    cast-put-count-3
-    put-count-requires-3
     same-length
     returns)

@@ -90,7 +90,7 @@ returns-2 : tie.Need-returns-2
 unfolding lineFor
 returns-2 c =
     let a = c .before .before .before .before .before .before .before .before .before .before .before .before .args in
-    printed-as Dropped (a .input .now) (a .cursor) (a .called) (a .output .now) _ _ _ _ (c .before .before .before .before .before .enum-told2 .given .1)
+    printed-as (Dropped _) (a .input .now) (a .cursor) (a .called) (a .output .now) _ _ _ _ (c .before .before .before .before .before .enum-told2 .given .1)
     (drop-is _ _ (c .before .before .before .byte-at .ensures) (c .before .before .put-drop .ensures))
 
 same-length-3 : tie.Need-same-length-3

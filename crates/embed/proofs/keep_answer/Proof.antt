@@ -1,10 +1,11 @@
--- `pack` meets its contract: five stores into a list of five leave what was stored.
+-- `keep_answer` meets its contract.
 use lib.ListN.{length-set}
+use mathlib.Core.Path.{refl}
 use native.Mathlib.Omega.{arith}
-use Rattle.embed.proofs.Packing.{all-stored}
+use Rattle.embed.specs.Kept.{keptAnswer}
 use borrow.Author.Needs.{needs}
-use Rattle.embed.proofs.pack.Statement.{statement}
-use Rattle.embed.proofs.pack.Tie as tie
+use Rattle.embed.proofs.keep_answer.Statement.{statement}
+use Rattle.embed.proofs.keep_answer.Tie as tie
 
 slice-write-state : tie.Need-slice-write-state
 slice-write-state c = search needs
@@ -21,25 +22,21 @@ cast-state-2 c = search needs
 slice-write-state-3 : tie.Need-slice-write-state-3
 slice-write-state-3 c = search needs
 
-cast-state-3 : tie.Need-cast-state-3
-cast-state-3 c = search needs
-
 slice-write-state-4 : tie.Need-slice-write-state-4
 slice-write-state-4 c = search needs
 
 slice-write-state-5 : tie.Need-slice-write-state-5
-slice-write-state-5 c = simp length-set (omega (arith, c .before .before .before .before .pre))
+slice-write-state-5 c = simp length-set (omega (arith, c .before .before .before .pre))
 
 same-length : tie.Need-same-length
 same-length c = search needs
 
 returns : tie.Need-returns
-returns c =
-    let start = c .before .before .before .before in
-    all-stored (start .args .state .now) _ _ _ _ _ (start .pre)
+unfolding keptAnswer
+returns c = refl
 
-pub pack-spec : {M : Type 1} → statement M
-pack-spec =
+pub keep-answer-spec : {M : Type 1} → statement M
+keep-answer-spec =
     tie.close
     (tie.spec
     slice-write-state
@@ -47,7 +44,6 @@ pack-spec =
     slice-write-state-2
     cast-state-2
     slice-write-state-3
-    cast-state-3
     slice-write-state-4
     slice-write-state-5
     same-length
