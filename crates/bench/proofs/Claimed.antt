@@ -6,7 +6,7 @@ use Rattle.bench.proofs.Effects as Effects
 use Rattle.bench.proofs.Histories as Histories
 use Rattle.bench.proofs.Secret as Secret
 use Rattle.bench.proofs.Permalocked as Permalocked
-use Rattle.bench.specs.Claims.{AnswerNumbers, DropReasons, NothingChanges, DropTakesOneByte, AnswerIsOneFrame, History, WorkFalls, Bound, Starred, CommandsComeTo, GoodStaysGood, WriteEffect, LockEffect, KillEffect, NoOtherEffect, GapsStay, PermalockRule, Demand3, Demand3CanBeMet}
+use Rattle.bench.specs.Claims.{AnswerNumbers, DropReasons, NothingChanges, DropTakesOneByte, AnswerIsOneFrame, History, WorkFalls, Bound, Starred, CommandsComeTo, GoodStaysGood, WriteEffect, LockEffect, KillEffect, NoOtherEffect, GapsStay, PermalockRule, PermalocksStay, Demand3, Demand3CanBeMet}
 
 pub answer-numbers : AnswerNumbers
 answer-numbers = Answering.answer-numbers
@@ -58,6 +58,9 @@ gaps-stay = Effects.gaps-stay
 
 pub permalock-rule : PermalockRule
 permalock-rule = Permalocked.permalock-rule
+
+pub permalocks-stay : PermalocksStay
+permalocks-stay = Permalocked.permalocks-stay
 
 pub demand3 : Demand3
 demand3 = Secret.demand3

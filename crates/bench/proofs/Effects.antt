@@ -10,7 +10,7 @@ use mathlib.Core.Path.{_≡_, refl, ap, sym, _∙_}
 use borrow.Author.Tests.{eqb-true, not-true}
 use native.Mathlib.Omega.{arith}
 use Rattle.bench.proofs.Steps.{step-cases}
-use Rattle.bench.specs.Claims.{Overwritten, Effect, NamedWords, WriteEffect, LockEffect, KillEffect, NoOtherEffect, GapsStay, pairsAfter, isGood, isError}
+use Rattle.bench.specs.Claims.{Overwritten, Effect, NamedWords, WriteEffect, LockEffect, KillEffect, NoOtherEffect, GapsStay, isGood, isError}
 use Rattle.bench.specs.Machine.{State, Call, Step, numberOf, unchanged, dropped, answered, actIn, restOf, step}
 use Rattle.frame.proofs.Numbers.{length-bytes-of}
 use Rattle.frame.proofs.Stores.{take-sets, drop-sets-behind, part-sets, byte-sets-before, byte-sets-behind}
@@ -25,7 +25,6 @@ use Rattle.tag.specs.Answers.{changed}
 use Rattle.tag.specs.Answers as Answers
 use Rattle.tag.specs.Commands.{bankIn, countIn, dataIn}
 use Rattle.image.specs.Image.{good, view, wordAt, endOf}
-use Rattle.tag.specs.Locks.{pairs, bitsOf, breaksPermalock}
 use Rattle.tag.specs.declared.commands.Act.{Act}
 
 overwritten : (at : ℕ) (bytes old : List ℕ) → at + length bytes ≤ length old → Overwritten at bytes old (sets old at bytes)
@@ -125,17 +124,14 @@ write-effect c s code =
     (λ e secured. other _ 0x49 0x82 code e (omega arith))
     (λ e equal. other _ 0x49 0x65 code e (omega arith))
 
--- a Lock that stores its pairs breaks no permalock
-pub lock-keeps : (c : Call) (s : State) → codeIn (restOf c s) ≡ 0x82
-    → Effect s (step c s) 20 (twoBytes (bitsOf (pairsAfter s (parametersIn (restOf c s)))))
-    × (isGood (step c s) ≡ true → breaksPermalock (pairs (view (s .image) .locks)) (pairsAfter s (parametersIn (restOf c s))) ≡ false)
+pub lock-effect : LockEffect
 unfolding StepEffect actIn changed Answers.isError
-lock-keeps c s code =
+lock-effect c s code =
     let image : List ℕ = s .image in
     let p : List ℕ = parametersIn (restOf c s) in
-    let Kept : Type 0 = breaksPermalock (pairs (view image .locks)) (pairsAfter s p) ≡ false in
-    from-act c s 20 (twoBytes (newBits image p)) Kept λ h.
-    act-cases (ActEffect image p 20 (twoBytes (newBits image p)) Kept)
+    from-act c s 20 (twoBytes (newBits image p)) Unit
+    (λ h.
+    act-cases (ActEffect image p 20 (twoBytes (newBits image p)) Unit)
     (λ e. keeps image p _ _ _ _ refl refl)
     (λ e. keeps image p _ _ _ _ refl refl)
     image p (codeIn (restOf c s))
@@ -145,11 +141,9 @@ lock-keeps c s code =
     (λ e locks.
     stores image p _ _ _ _ refl
     (overwritten 20 (twoBytes (newBits image p)) image (omega (arith, header-there image h, length-bytes-of 2 (newBits image p))))
-    (locks .kept))
-    (λ e equal. other _ 0x82 0x65 code e (omega arith))
-
-pub lock-effect : LockEffect
-lock-effect c s code = lock-keeps c s code .0
+    tt)
+    (λ e equal. other _ 0x82 0x65 code e (omega arith)))
+    .0
 
 pub kill-effect : KillEffect
 unfolding StepEffect actIn changed bytesOf Answers.isError

@@ -1,38 +1,80 @@
--- A Lock that is answered good keeps each pair whose permalock bit is set.
+-- A pair whose permalock bit is set stays: in a Lock that is answered good, and over any list of calls.
 use Prim.Native.Nat.{ℕ, _%_}
-use borrow.Author.Tests.{eq-eqb, eqb-true, not-false}
+use borrow.Author.Tests.{eq-eqb}
 use lib.Dec.{eqb}
-use mathlib.Core.Bool.{Bool, false, not, _||_}
-use mathlib.Core.Path.{_≡_}
-use Rattle.bench.proofs.Effects.{lock-keeps}
-use Rattle.bench.specs.Claims.{Permalocks, PermalockRule}
-use Rattle.frame.proofs.Tests.{and-second, or-neither}
-use Rattle.tag.specs.Locks.{permalocked, breaks, breaksPermalock}
+use mathlib.Core.Bool.{true}
+use mathlib.Core.List.{List, [], _∷_}
+use mathlib.Core.Path.{_≡_, refl, sym, subst, _∙_}
+use native.Mathlib.Omega.{arith}
+use Rattle.bench.proofs.Effects.{image-after}
+use Rattle.bench.specs.Claims.{Permalocks, PermalockRule, PermalocksStay}
+use Rattle.bench.specs.Machine.{State, Call, actIn, restOf, step, after}
+use Rattle.frame.proofs.Picks.{pick-true}
+use Rattle.frame.proofs.Stores.{number-sets-before}
+use Rattle.frame.specs.Bytes.{number, bytesOf, twoBytes}
+use Rattle.frame.specs.Formats.{codeIn, parametersIn}
+use Rattle.image.proofs.GoodImages.{good-facts, header-there}
+use Rattle.image.specs.Image.{good, view}
+use Rattle.tag.proofs.Cases.{placeOf, newBits, act-cases}
+use Rattle.tag.proofs.LockPairs.{bits-small, pairs-of-bits}
+use Rattle.tag.proofs.NamedWords.{Inside, inside}
+use Rattle.tag.proofs.StaysGood.{stored-locks, new-locks-paired}
+use Rattle.tag.specs.Answers.{changed}
+use Rattle.tag.specs.Commands.{dataIn, actOf}
+use Rattle.tag.specs.Locks.{pairs, permalocked, newPair, newPairs}
+use Rattle.tag.specs.declared.commands.Act.{Act}
 use Rattle.tag.specs.declared.locks.Pairs.{Pairs}
 
--- a pair that is not broken, with its permalock bit set, is the old one
-unbroken : (old new : ℕ) → breaks old new ≡ false → old % 2 ≡ 1 → new ≡ old
-unfolding breaks permalocked
-unbroken old new h set = eqb-true _ _ (not-false _ (and-second (eqb (old % 2) 1) (not (eqb new old)) (eq-eqb _ _ set) h))
+stays : (mask action old : ℕ) → old % 2 ≡ 1 → newPair mask action old ≡ old
+unfolding newPair permalocked
+stays mask action old set = simp (eq-eqb _ _ set, pick-true)
 
-permalocks : (old new : Pairs) → breaksPermalock old new ≡ false → Permalocks old new
-unfolding breaksPermalock
-permalocks old new h =
-    let kill : Bool = breaks (old .kill) (new .kill) in
-    let access : Bool = breaks (old .access) (new .access) in
-    let epc : Bool = breaks (old .epc) (new .epc) in
-    let tid : Bool = breaks (old .tid) (new .tid) in
-    let last : ((kill || access || epc || tid) ≡ false) × (breaks (old .user) (new .user) ≡ false) = or-neither _ _ h in
-    let fourth : ((kill || access || epc) ≡ false) × (tid ≡ false) = or-neither _ _ (last .0) in
-    let third : ((kill || access) ≡ false) × (epc ≡ false) = or-neither _ _ (fourth .0) in
-    let second : (kill ≡ false) × (access ≡ false) = or-neither _ _ (third .0) in
-    record {
-      kill = unbroken _ _ (second .0);
-      access = unbroken _ _ (second .1);
-      epc = unbroken _ _ (third .1);
-      tid = unbroken _ _ (fourth .1);
-      user = unbroken _ _ (last .1);
-    }
+new-ones : (mask action old : Pairs) → Permalocks old (newPairs mask action old)
+unfolding newPairs
+new-ones mask action old = record { kill = stays _ _ _; access = stays _ _ _; epc = stays _ _ _; tid = stays _ _ _; user = stays _ _ _ }
 
 pub permalock-rule : PermalockRule
-permalock-rule c s code good = permalocks _ _ (lock-keeps c s code .1 good)
+permalock-rule c s code good = new-ones _ _ _
+
+same : (old new : Pairs) → new ≡ old → Permalocks old new
+same old new e = subst (Permalocks old) (sym e) record { kill = λ h. refl; access = λ h. refl; epc = λ h. refl; tid = λ h. refl; user = λ h. refl }
+
+-- a pair that stayed still has its permalock bit
+then : (a b c : ℕ) → (a % 2 ≡ 1 → b ≡ a) → (b % 2 ≡ 1 → c ≡ b) → a % 2 ≡ 1 → c ≡ a
+then a b c first second set = second (subst (λ (n : ℕ). n % 2 ≡ 1) (sym (first set)) set) ∙ first set
+
+both : (old mid new : Pairs) → Permalocks old mid → Permalocks mid new → Permalocks old new
+both old mid new first second =
+    record {
+      kill = then _ _ _ (first .kill) (second .kill);
+      access = then _ _ _ (first .access) (second .access);
+      epc = then _ _ _ (first .epc) (second .epc);
+      tid = then _ _ _ (first .tid) (second .tid);
+      user = then _ _ _ (first .user) (second .user);
+    }
+
+-- one command: only a Lock touches the lock bits
+by-act : (image p : List ℕ) (code : ℕ) → good image ≡ true
+    → Permalocks (pairs (number image 20)) (pairs (number (changed image p (actOf image code p)) 20))
+unfolding changed view bytesOf
+by-act image p code h =
+    let Kept : Act → Type 0 = λ act. Permalocks (pairs (number image 20)) (pairs (number (changed image p act) 20)) in
+    act-cases Kept (λ e. same _ _ refl) (λ e. same _ _ refl) image p code
+    (λ e. same _ _ refl)
+    (λ e reads. same _ _ refl)
+    (λ e writes.
+    let at : Inside image p = inside image p (good-facts image h) (writes .aim) in
+    same _ _ (rw (number-sets-before image (placeOf image p) (dataIn p) 20 (omega (arith, at .from)))))
+    (λ e locks.
+    rw (stored-locks image (newBits image p) (header-there image h) (bits-small _ (new-locks-paired image p)), pairs-of-bits _ (new-locks-paired image p))
+    (new-ones _ _ _))
+    (λ e equal. same _ _ (rw (number-sets-before image 22 (1 ∷ []) 20 (omega arith))))
+
+pub permalocks-stay : PermalocksStay
+unfolding after actIn
+permalocks-stay [] s = same _ _ refl
+permalocks-stay (c ∷ calls) s =
+    both _ _ _
+    (image-after (λ (new : List ℕ). Permalocks (pairs (number (s .image) 20)) (pairs (number new 20))) c s (same _ _ refl)
+    (by-act (s .image) (parametersIn (restOf c s)) (codeIn (restOf c s))))
+    (permalocks-stay calls (step c s .next))

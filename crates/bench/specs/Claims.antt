@@ -239,7 +239,7 @@ GapsStay =
 
 -- ---- Permalocks
 
--- "If a pair whose permalock bit is set would change: C4, nothing changes.": a Lock that is answered good keeps each such pair
+-- A pair whose permalock bit is set stays as it is. P3: what such a region is asked is refused, "ignored", or "changes nothing".
 pub record Permalocks (old new : Pairs) : Type 0 where
   pub kill : old .kill % 2 ≡ 1 → new .kill ≡ old .kill
   pub access : old .access % 2 ≡ 1 → new .access ≡ old .access
@@ -253,6 +253,10 @@ PermalockRule =
     → codeOf c s ≡ 0x82
     → isGood (step c s) ≡ true
     → Permalocks (pairs (view (s .image) .locks)) (pairsAfter s (parametersOf c s))
+
+-- It never changes, whatever calls come: bytes 20 and 21 of the image, before and after them.
+abbrev pub PermalocksStay : Type 0
+PermalocksStay = (calls : List Call) (s : State) → Permalocks (pairs (number (s .image) 20)) (pairs (number (after calls s .image) 20))
 
 -- ---- Demand 3: the log does not tell the passwords
 

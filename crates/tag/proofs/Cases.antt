@@ -10,7 +10,7 @@ use Rattle.frame.proofs.Picks.{by-test}
 use Rattle.frame.proofs.Tests.{and-left, and-right}
 use Rattle.tag.specs.Commands.{passwordIn, bankIn, pointerIn, countIn, dataIn, ldIn, aimRight, parseInventory, parseRead, parseWrite, parseLock, parseKill, parse, gone, ifPresent, admitted, outside, inventoryVerdict, readAct, readVerdict, lengthBroken, writeAct, writeVerdict, lockAct, lockVerdict, killAct, killVerdict, verdict, actOf}
 use Rattle.image.specs.Image.{view, bankOf, wordAt}
-use Rattle.tag.specs.Locks.{pairs, bitsOf, standing, isSecured, isWrong, killStanding, mayRead, mayWrite, newPairs, breaksPermalock}
+use Rattle.tag.specs.Locks.{pairs, bitsOf, standing, isSecured, isWrong, killStanding, mayRead, mayWrite, newPairs, refusesLock}
 use Rattle.tag.specs.declared.commands.Act.{Act}
 use Rattle.tag.specs.declared.commands.Act.the-variants.{PlainError, TagError, Notify, Give, Store, Set}
 use Rattle.tag.specs.declared.commands.Parsed.{Parsed}
@@ -53,7 +53,6 @@ pub record Kills (image p : List ℕ) : Type 0 where
 pub record Locks (image p : List ℕ) : Type 0 where
   pub fields : length p ≡ 7
   pub secured : isSecured (standing image (passwordIn p)) ≡ true
-  pub kept : breaksPermalock (pairs (view image .locks)) (newPairs (pairs (ldIn p / 1024)) (pairs (ldIn p % 1024)) (pairs (view image .locks))) ≡ false
 
 aimed : (v : View) (p : List ℕ) → aimRight p ≡ true → outside v (bankIn p) (pointerIn p) (countIn p) ≡ false
     → Aimed v (bankIn p) (pointerIn p) (countIn p)
@@ -134,16 +133,14 @@ module _ (P : Act → Type 0) (plain : (e : ℕ) → P (PlainError e)) (tagged :
       store inside (not-false _ may) kept
 
   lock-cases : (v : View) (s : Standing) (mask action : ℕ)
-      → (isSecured s ≡ true
-      → breaksPermalock (pairs (v .locks)) (newPairs (pairs mask) (pairs action) (pairs (v .locks))) ≡ false
-      → P (Set 0x82 20 2 (bitsOf (newPairs (pairs mask) (pairs action) (pairs (v .locks))))))
+      → (isSecured s ≡ true → P (Set 0x82 20 2 (bitsOf (newPairs (pairs mask) (pairs action) (pairs (v .locks))))))
       → P (lockAct v s mask action)
   unfolding lockAct
   lock-cases v s mask action locks =
       by-test P (not (isSecured s)) (λ h. plain 0x13) λ secured.
       by-test P (not (eqb (pairs mask .user) 0) && eqb (v .user .words) 0) (λ h. tagged 0xC3) λ h.
-      by-test P (breaksPermalock (pairs (v .locks)) (newPairs (pairs mask) (pairs action) (pairs (v .locks)))) (λ h. tagged 0xC4) λ kept.
-      locks (not-false _ secured) kept
+      by-test P (refusesLock (pairs mask) (pairs action) (pairs (v .locks))) (λ h. tagged 0xC4) λ h.
+      locks (not-false _ secured)
 
   kill-cases : (k : KillStanding) → (k ≡ Equal → P (Set 0x65 22 1 1)) → P (killAct k)
   unfolding killAct
@@ -174,7 +171,7 @@ module _ (P : Act → Type 0) (plain : (e : ℕ) → P (PlainError e)) (tagged :
       store h record { fields = fields; aim = aimed v p aim inside; may = may; kept = kept }))
       (λ h fields.
       admitted-cases v s 0x13 _
-      (lock-cases v s (ldIn p / 1024) (ldIn p % 1024) λ secured kept. locks h record { fields = fields; secured = secured; kept = kept }))
+      (lock-cases v s (ldIn p / 1024) (ldIn p % 1024) λ secured. locks h record { fields = fields; secured = secured }))
       (λ h fields.
       present-cases v 0x12 _
       (kill-cases (killStanding image (passwordIn p)) λ equal. killed h record { fields = fields; equal = equal }))

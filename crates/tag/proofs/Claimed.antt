@@ -3,7 +3,7 @@ use Prim.Native.Nat.{ℕ}
 use mathlib.Core.List.{List}
 use Rattle.tag.proofs.CommandRows as CommandRows
 use Rattle.tag.proofs.LockWords as LockWords
-use Rattle.tag.specs.Claims.{OtherCodes, InventoryRows, ReadRows, WriteRows, LockRows, KillRows, PairBits, LockTable, Regions, RangeBeforeLock, Standings, NewPair}
+use Rattle.tag.specs.Claims.{OtherCodes, InventoryRows, ReadRows, WriteRows, LockRows, KillRows, PairBits, LockTable, Regions, RangeBeforeLock, Standings, PairTable}
 use Rattle.image.specs.declared.header.View.{View}
 use Rattle.tag.specs.declared.locks.Standing.{Standing}
 
@@ -40,5 +40,5 @@ range-before-lock = LockWords.range-before-lock
 pub standings : (stored given : ℕ) → Standings stored given
 standings = LockWords.standings
 
-pub new-pair : (action old : ℕ) → NewPair action old
-new-pair = LockWords.new-pair
+pub pair-table : PairTable
+pair-table = LockWords.pair-table

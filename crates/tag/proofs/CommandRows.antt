@@ -12,7 +12,7 @@ use Rattle.frame.proofs.Picks.{pick-true, pick-false, pick-or, pick-not, pick-b
 use Rattle.frame.proofs.Tests.{and-left, not-leb}
 use Rattle.frame.specs.Bytes.{pick, part, bytesOf, byte, number, double}
 use Rattle.frame.specs.Frames.{frameOf, checked, checkOf}
-use Rattle.tag.proofs.RawLocks.{kill-pair, access-pair, epc-pair, tid-pair, user-pair, broken, top-four, some-bit, two-stored}
+use Rattle.tag.proofs.RawLocks.{kill-pair, access-pair, epc-pair, tid-pair, user-pair, refused, top-four, some-bit, two-stored}
 use Rattle.tag.proofs.RawTests.{wrong-is, secured-is, words-are, offset-is, unreadable, unwritable, short-too, broken-is}
 use Rattle.tag.proofs.Rows.{plain-is, plain-row, tag-row, last-row}
 use Rattle.tag.specs.Answers.{pcAndEpc, tail, answer, changed}
@@ -20,7 +20,7 @@ use Rattle.tag.specs.Claims as Claims
 use Rattle.tag.specs.Claims.{InventoryRows, ReadRows, WriteRows, LockRows, KillRows, OtherCodes, outcome, framed, stored, offsetOf, killStored, accessStored}
 use Rattle.tag.specs.Commands.{passwordIn, bankIn, pointerIn, countIn, dataIn, ldIn, aimRight, parseInventory, parseRead, parseWrite, parseLock, parseKill, parse, gone, ifPresent, admitted, outside, inventoryVerdict, readAct, readVerdict, writeAct, writeVerdict, lockAct, lockVerdict, killAct, killVerdict, verdict, actOf}
 use Rattle.image.specs.Image.{bankAt, view, rssi, bankOf, wordAt, epcLength, killPassword, accessPassword}
-use Rattle.tag.specs.Locks.{pairs, bitsOf, standing, killStandingOf, killStanding, newPairs, breaksPermalock}
+use Rattle.tag.specs.Locks.{pairs, bitsOf, standing, killStandingOf, killStanding, newPairs, refusesLock}
 use Rattle.tag.specs.declared.commands.Act.the-variants.{PlainError, TagError, Notify, Give, Store, Set}
 use Rattle.tag.specs.declared.commands.Parsed.{Parsed}
 use Rattle.tag.specs.declared.locks.KillStanding.the-variants.{NoneStored, Equal, Different}
@@ -144,15 +144,17 @@ unfolding actOf parse parseLock verdict passwordIn
 lock-acts image p = simp (ld-is, pick-true, pick-false, pick-both, verdict-pick)
 
 locked-is : (image p : List ℕ)
-    → let new : ℕ → ℕ = Claims.newBit (number image 20) (ld p) in
+    → let new : ℕ → ℕ → ℕ = Claims.newBit (number image 20) (ld p) in
     outcome image p (Set 0x82 20 2 (bitsOf (newPairs (pairs (ld p / 1024)) (pairs (ld p % 1024)) (pairs (number image 20)))))
     ≡ stored image 0x82 20
-    ((2 * new 9 + new 8) ∷ (128 * new 7 + 64 * new 6 + 32 * new 5 + 16 * new 4 + 8 * new 3 + 4 * new 2 + 2 * new 1 + new 0) ∷ [])
+    ((2 * new 8 9 + new 8 8)
+    ∷ (128 * new 6 7 + 64 * new 6 6 + 32 * new 4 5 + 16 * new 4 4 + 8 * new 2 3 + 4 * new 2 2 + 2 * new 0 1 + new 0 0)
+    ∷ [])
 unfolding outcome answer changed frameOf checked checkOf bytesOf tail pcAndEpc view bankAt wordAt epcLength
 locked-is image p = ap (stored image 0x82 20) (two-stored (ld p) (number image 20))
 
 pub lock-rows : LockRows
-unfolding lockVerdict lockAct admitted ifPresent gone standing accessPassword view bankAt pairs breaksPermalock newPairs
+unfolding lockVerdict lockAct admitted ifPresent gone standing accessPassword view bankAt pairs refusesLock
 lock-rows image p =
     let l : ℕ = ld p in
     let n : ℕ = number image 20 in
@@ -164,11 +166,11 @@ lock-rows image p =
     plain-row image p _ _ _ _ (rw (secured-is (accessStored image) (double p 0))) λ secured.
     tag-row image p _ _ _ _ (rw (some-bit _ _ _ (user-pair l n .of-mask))) λ user.
     simp pick-or
-    (tag-row image p _ _ _ _ (broken (kill-pair l n)) λ kill.
-    tag-row image p _ _ _ _ (broken (access-pair l n)) λ access.
-    tag-row image p _ _ _ _ (broken (epc-pair l n)) λ epc.
-    tag-row image p _ _ _ _ (broken (tid-pair l n)) λ tid.
-    tag-row image p _ _ _ _ (broken (user-pair l n)) λ user.
+    (tag-row image p _ _ _ _ (refused (kill-pair l n)) λ kill.
+    tag-row image p _ _ _ _ (refused (access-pair l n)) λ access.
+    tag-row image p _ _ _ _ (refused (epc-pair l n)) λ epc.
+    tag-row image p _ _ _ _ (refused (tid-pair l n)) λ tid.
+    tag-row image p _ _ _ _ (refused (user-pair l n)) λ user.
     last-row (locked-is image p)))
 
 -- ---- 0x65

@@ -8,9 +8,9 @@ use native.Mathlib.Nat.{div-div-eq-div-mul}
 use native.Mathlib.Omega.{arith}
 use Rattle.frame.proofs.Picks.{pick-true, pick-false}
 use Rattle.frame.specs.Bytes.{pick}
-use Rattle.tag.specs.Claims.{PairBits, LockTable, Regions, RangeBeforeLock, Standings, NewPair}
+use Rattle.tag.specs.Claims.{PairBits, LockTable, Regions, RangeBeforeLock, Standings, PairTable}
 use Rattle.tag.specs.Commands.{ifPresent, admitted, outside, readAct, readVerdict, writeAct, writeVerdict}
-use Rattle.tag.specs.Locks.{pairs, standingOf, isSecured, allows, touches, mayTouchPasswords, mayRead, mayWrite, newBit, newPair}
+use Rattle.tag.specs.Locks.{pairs, standingOf, isSecured, allows, touches, mayTouchPasswords, mayRead, mayWrite, permalocked, refusesPair, newBit, maskedPair, newPair}
 use Rattle.image.specs.declared.header.View.{View}
 use Rattle.tag.specs.declared.locks.Standing.{Standing}
 
@@ -68,6 +68,6 @@ standings stored given =
       zero-given = λ n. simp (ne-eqb stored 0 n, pick-true, pick-false);
     }
 
-pub new-pair : (action old : ℕ) → NewPair action old
-unfolding newPair newBit pick
-new-pair action old = record { masked-00 = omega arith; masked-01 = omega arith; masked-10 = omega arith; masked-11 = omega arith }
+pub pair-table : PairTable
+unfolding refusesPair newPair maskedPair newBit permalocked pick
+pair-table = refl

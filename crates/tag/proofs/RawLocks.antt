@@ -1,17 +1,16 @@
--- A Lock's pairs by their bits: the new ones, those that would break a permalock, and the two bytes that are stored.
+-- A Lock's pairs by their bits: those that refuse, the new ones, and the two bytes that are stored.
 use Prim.Native.Nat.{ℕ, _+_, _*_, _/_, _%_, _^_, _≤_, _<_, zero, suc}
 use borrow.Author.Tests.{eqb-true, eqb-false, ltb-true, ltb-false, eq-eqb, ne-eqb}
 use lib.Dec.{eqb, ltb}
 use mathlib.Core.Bool.{Bool, true, false, not, _&&_, _||_}
 use mathlib.Core.List.{[], _∷_}
-use mathlib.Core.Path.{_≡_, ap}
+use mathlib.Core.Path.{_≡_, refl, ap}
 use native.Mathlib.Omega.{arith}
 use Rattle.frame.proofs.Tests.{either}
 use Rattle.frame.specs.Bytes.{pick, bytesOf, twoBytes}
 use Rattle.tag.specs.Claims as Claims
 use Rattle.tag.specs.Claims.{bit}
-use Rattle.tag.specs.Locks as Locks
-use Rattle.tag.specs.Locks.{pairs, bitsOf, permalocked, newBit, newPair, newPairs}
+use Rattle.tag.specs.Locks.{pairs, bitsOf, permalocked, refusesPair, newBit, maskedPair, newPair, newPairs}
 
 -- a number below four by its two bits
 pub record TwoBits (n high low : ℕ) : Type 0 where
@@ -42,47 +41,67 @@ user-pair ld locks = record { of-mask = omega arith; of-action = omega arith; of
 
 -- ---- one pair
 
-new-is : (m a o mh ml ah al oh ol : ℕ) → TwoBits m mh ml → TwoBits a ah al → TwoBits o oh ol
-    → newPair m a o ≡ 2 * pick (eqb mh 1) ah oh + pick (eqb ml 1) al ol
-unfolding newPair newBit
-new-is m a o mh ml ah al oh ol bm ba bo =
-    let mask-high : m / 2 ≡ mh = omega arith in
-    let mask-low : m % 2 ≡ ml = omega arith in
-    let action-high : a / 2 ≡ ah = omega arith in
-    let action-low : a % 2 ≡ al = omega arith in
-    let old-high : o / 2 ≡ oh = omega arith in
-    let old-low : o % 2 ≡ ol = omega arith in
-    simp (mask-high, mask-low, action-high, action-low, old-high, old-low) (omega arith)
+pick-pair : (test : Bool) (o h l oh ol : ℕ) → o ≡ 2 * oh + ol → pick test o (h * 2 + l) ≡ 2 * pick test oh h + pick test ol l
+unfolding pick
+pick-pair true o h l oh ol e = e
+pick-pair false o h l oh ol e = omega arith
+
+-- a bit is 0 where it is not 1
+pick-zero : (test rest : Bool) (al : ℕ) → al < 2 → pick test (eqb al 0) rest ≡ ((test && not (eqb al 1)) || (not test && rest))
+unfolding pick
+pick-zero true rest zero h = refl
+pick-zero true rest (suc zero) h = refl
+pick-zero true rest (suc (suc n)) h = absurd (omega arith)
+pick-zero false rest al h = refl
+
+module _ {m a o mh ml ah al oh ol : ℕ} (bm : TwoBits m mh ml) (ba : TwoBits a ah al) (bo : TwoBits o oh ol) where
+  mask-high : m / 2 ≡ mh
+  mask-high = omega (arith, bm .value, bm .low-bit)
+
+  mask-low : m % 2 ≡ ml
+  mask-low = omega (arith, bm .value, bm .low-bit)
+
+  action-high : a / 2 ≡ ah
+  action-high = omega (arith, ba .value, ba .low-bit)
+
+  action-low : a % 2 ≡ al
+  action-low = omega (arith, ba .value, ba .low-bit)
+
+  old-high : o / 2 ≡ oh
+  old-high = omega (arith, bo .value, bo .low-bit)
+
+  old-low : o % 2 ≡ ol
+  old-low = omega (arith, bo .value, bo .low-bit)
+
+  new-is : newPair m a o ≡ 2 * pick (eqb ol 1) oh (pick (eqb mh 1) ah oh) + pick (eqb ol 1) ol (pick (eqb ml 1) al ol)
+  unfolding newPair maskedPair newBit permalocked
+  new-is =
+      simp (mask-high, mask-low, action-high, action-low, old-high, old-low)
+      (pick-pair (eqb ol 1) o (pick (eqb mh 1) ah oh) (pick (eqb ml 1) al ol) oh ol (bo .value))
+
+  refuses-is : refusesPair m a o ≡ (eqb ol 1 && ((eqb ml 1 && not (eqb al 1)) || (not (eqb ml 1) && (eqb mh 1 && not (eqb ah oh)))))
+  unfolding refusesPair permalocked
+  refuses-is =
+      simp (mask-high, mask-low, action-high, action-low, old-high, old-low)
+      (ap (λ (t : Bool). eqb ol 1 && t) (pick-zero (eqb ml 1) (eqb mh 1 && not (eqb ah oh)) al (ba .low-bit)))
 
 picked-small : (test : Bool) (a b : ℕ) → a < 2 → b < 2 → pick test a b < 2
 unfolding pick
 picked-small true a b h k = h
 picked-small false a b h k = k
 
-other-pair : (h l oh ol : ℕ) → l < 2 → ol < 2 → not (eqb (2 * h + l) (2 * oh + ol)) ≡ (not (eqb h oh) || not (eqb l ol))
-other-pair h l oh ol small old =
-    either (eqb h oh)
-    (λ e. either (eqb l ol)
-    (λ f. simp (e, f, eq-eqb (2 * h + l) (2 * oh + ol) (omega (arith, eqb-true h oh e, eqb-true l ol f))))
-    (λ f. simp (e, f, ne-eqb (2 * h + l) (2 * oh + ol) (λ g. eqb-false l ol f (omega (arith, eqb-true h oh e, g))))))
-    (λ e. simp (e, ne-eqb (2 * h + l) (2 * oh + ol) (λ g. eqb-false h oh e (omega (arith, g)))))
-
 module _ {ld locks mask action old high low : ℕ} (b : PairOf ld locks mask action old high low) where
-  pub renewed : newPair mask action old ≡ 2 * Claims.newBit locks ld high + Claims.newBit locks ld low
-  renewed = new-is _ _ _ _ _ _ _ _ _ (b .of-mask) (b .of-action) (b .of-old)
+  pub renewed : newPair mask action old ≡ 2 * Claims.newBit locks ld low high + Claims.newBit locks ld low low
+  renewed = new-is (b .of-mask) (b .of-action) (b .of-old)
 
-  pub new-small : (Claims.newBit locks ld high < 2) × (Claims.newBit locks ld low < 2)
-  new-small =
-      (picked-small _ _ _ (b .of-action .high-bit) (b .of-old .high-bit), picked-small _ _ _ (b .of-action .low-bit) (b .of-old .low-bit))
+  pub new-small : (Claims.newBit locks ld low high < 2) × (Claims.newBit locks ld low low < 2)
+  new-small = (
+    picked-small _ _ _ (b .of-old .high-bit) (picked-small _ _ _ (b .of-action .high-bit) (b .of-old .high-bit)),
+    picked-small _ _ _ (b .of-old .low-bit) (picked-small _ _ _ (b .of-action .low-bit) (b .of-old .low-bit)),
+  )
 
-  pub broken : Locks.breaks old (newPair mask action old) ≡ Claims.breaks locks ld high low
-  unfolding Locks.breaks permalocked
-  broken =
-      let permalock : old % 2 ≡ bit locks low = omega (arith, b .of-old .value, b .of-old .low-bit) in
-      rw (renewed, permalock)
-      (ap (λ (t : Bool). eqb (bit locks low) 1 && t)
-      (rw (b .of-old .value)
-      (other-pair (Claims.newBit locks ld high) (Claims.newBit locks ld low) (bit locks high) (bit locks low) (new-small .1) (b .of-old .low-bit))))
+  pub refused : refusesPair mask action old ≡ Claims.refusesRegion locks ld high low
+  refused = refuses-is (b .of-mask) (b .of-action) (b .of-old)
 
 -- ---- LD
 
@@ -116,9 +135,11 @@ ten-bits b9 b8 b7 b6 b5 b4 b3 b2 b1 b0 s9 s7 s5 s3 s1 =
     rw (first, second)
 
 pub two-stored : (l n : ℕ)
-    → let new : ℕ → ℕ = Claims.newBit n l in
+    → let new : ℕ → ℕ → ℕ = Claims.newBit n l in
     twoBytes (bitsOf (newPairs (pairs (l / 1024)) (pairs (l % 1024)) (pairs n)))
-    ≡ (2 * new 9 + new 8) ∷ (128 * new 7 + 64 * new 6 + 32 * new 5 + 16 * new 4 + 8 * new 3 + 4 * new 2 + 2 * new 1 + new 0) ∷ []
+    ≡ (2 * new 8 9 + new 8 8)
+    ∷ (128 * new 6 7 + 64 * new 6 6 + 32 * new 4 5 + 16 * new 4 4 + 8 * new 2 3 + 4 * new 2 2 + 2 * new 0 1 + new 0 0)
+    ∷ []
 unfolding bitsOf newPairs pairs
 two-stored l n =
     rw (renewed (kill-pair l n), renewed (access-pair l n), renewed (epc-pair l n), renewed (tid-pair l n), renewed (user-pair l n))

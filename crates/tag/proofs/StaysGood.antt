@@ -1,5 +1,5 @@
 -- Whatever a command does, a good image stays good.
-use Prim.Native.Nat.{ℕ, _+_, _-_, _*_, _%_, _≤_, _<_}
+use Prim.Native.Nat.{ℕ, _+_, _-_, _*_, _/_, _%_, _≤_, _<_}
 use borrow.Author.Tests.{leb-true, leb-false, ltb-true, ltb-false, le-leb, lt-ltb}
 use lib.Dec.{leb, ltb}
 use lib.ListN.{length}
@@ -21,6 +21,8 @@ use Rattle.tag.proofs.LockPairs.{pairs-small, new-pairs-small, bits-sma
 use Rattle.tag.specs.Answers.{changed}
 use Rattle.tag.specs.Commands.{bankIn, pointerIn, countIn, dataIn, ldIn, lengthBroken, actOf}
 use Rattle.image.specs.Image.{good, view, bankAt, bankOf, wordAt, epcLength}
+use Rattle.tag.specs.Bounds.{Paired}
+use Rattle.tag.specs.Locks.{pairs, newPairs}
 use Rattle.tag.specs.declared.commands.Act.{Act}
 use Rattle.image.specs.declared.header.Bank.{Bank}
 use Rattle.image.specs.declared.header.View.{View}
@@ -123,14 +125,19 @@ good-store image p g w =
     (rw (byte-sets-before image (placeOf image p) (dataIn p) 22 (omega arith)) (g .state-known))
     (fits-after image g (pointerIn p) (countIn p) (dataIn p) (data-length image p w) (bankIn p) (w .aim .bank-known) (w .aim .inside) (w .kept))
 
+-- what a Lock stores is read again as it is
+pub stored-locks : (image : List ℕ) (bits : ℕ) → 24 ≤ length image → bits < 1024 → number (sets image 20 (twoBytes bits)) 20 ≡ bits
+stored-locks image bits there small =
+    number-sets-in image 20 (twoBytes bits) 0 (omega (arith, length-bytes-of 2 bits)) (omega arith) ∙ number-two-bytes bits (omega arith)
+
+pub new-locks-paired : (image p : List ℕ) → Paired (newPairs (pairs (ldIn p / 1024)) (pairs (ldIn p % 1024)) (pairs (view image .locks)))
+new-locks-paired image p = new-pairs-small _ _ _ (pairs-small (ldIn p % 1024)) (pairs-small (view image .locks))
+
 good-locks : (image : List ℕ) (bits : ℕ) → Good (view image) → bits < 1024 → Good (view (sets image 20 (twoBytes bits)))
 unfolding view bankAt
 good-locks image bits g small =
     let two : length (twoBytes bits) ≡ 2 = length-bytes-of 2 bits in
-    let new : number (sets image 20 (twoBytes bits)) 20 ≡ bits =
-    number-sets-in image 20 (twoBytes bits) 0 (omega arith) (omega arith) ∙ number-two-bytes bits (omega arith)
-    in
-    good-after image 20 (twoBytes bits) g (omega arith) (rw new small)
+    good-after image 20 (twoBytes bits) g (omega arith) (rw (stored-locks image bits (omega arith) small) small)
     (rw (byte-sets-behind image 20 (twoBytes bits) 22 (omega arith)) (g .state-known))
     (rw (number-sets-behind image 20 (twoBytes bits) (view image .epc .offset + 2) (omega arith)) (g .epc-fits))
 
@@ -153,5 +160,5 @@ stays-good image p code h =
     (λ n reads. h)
     (λ n writes. good-holds _ (good-store image p g writes))
     (λ n secured.
-    good-holds _ (good-locks image (newBits image p) g (bits-small _ (new-pairs-small _ _ _ (pairs-small (ldIn p % 1024)) (pairs-small (view image .locks))))))
+    good-holds _ (good-locks image (newBits image p) g (bits-small _ (new-locks-paired image p))))
     (λ n equal. good-holds _ (good-killed image g))

@@ -4,7 +4,7 @@
 -- last part is about the definitions' own words for locks. Each statement is proved in proofs/Claimed.antt, for every image and all parameters.
 use Prim.Native.Nat.{ℕ, _+_, _-_, _*_, _/_, _%_, _^_, _≤_, _<_}
 use mathlib.Core.Bool.{Bool, true, false, not, _&&_, _||_}
-use mathlib.Core.List.{List, [], _∷_, _++_}
+use mathlib.Core.List.{List, [], _∷_, _++_, map}
 use mathlib.Core.Logic.{_≢_}
 use mathlib.Core.Path.{_≡_}
 use lib.Dec.{eqb, leb, ltb}
@@ -16,7 +16,7 @@ use Rattle.frame.specs.Frames.{sum}
 use Rattle.tag.specs.Answers.{answer, changed}
 use Rattle.tag.specs.Commands.{actOf, gone, readVerdict, writeVerdict}
 use Rattle.image.specs.Image.{good, bankOf}
-use Rattle.tag.specs.Locks.{pairs, standingOf, isWrong, allows, mayRead, mayWrite, newPair}
+use Rattle.tag.specs.Locks.{pairs, standingOf, isWrong, allows, mayRead, mayWrite, refusesPair, newPair}
 use Rattle.tag.specs.declared.commands.Act.{Act}
 use Rattle.tag.specs.declared.commands.Act.the-variants.{TagError}
 use Rattle.image.specs.declared.header.View.{View}
@@ -192,14 +192,20 @@ WriteRows =
     -- "Else all words are written; tail, 00."
     (stored image 0x49 (offsetOf image bank + 2 * pointer) (drop 9 p))
 
--- "LD bits 19 to 10 are the mask, 9 to 0 the action." "A new pair takes masked bits from the action, others from the old pair.": lock bit k
-abbrev pub newBit : ℕ → ℕ → ℕ → ℕ
-newBit locks ld k = pick (isSet ld (10 + k)) (bit ld k) (bit locks k)
+-- "LD bits 19 to 10 are the mask, 9 to 0 the action." P3: "For each region whose permalock bit is already 1": that is lock bit `low`, and `high` its
+-- password bit
+abbrev pub refusesRegion : ℕ → ℕ → ℕ → ℕ → Bool
+refusesRegion locks ld high low =
+    isSet locks low
+    -- "a masked permalock bit with action 0 refuses the whole command with C4"
+    && ((isSet ld (10 + low) && not (isSet ld low))
+    -- "if only the password bit is masked, a differing action refuses with C4 and an equal one changes nothing"
+    || (not (isSet ld (10 + low)) && (isSet ld (10 + high) && not (eqb (bit ld high) (bit locks high)))))
 
--- "a pair whose permalock bit is set would change"
-abbrev pub breaks : ℕ → ℕ → ℕ → ℕ → Bool
-breaks locks ld high low =
-    isSet locks low && (not (eqb (newBit locks ld high) (bit locks high)) || not (eqb (newBit locks ld low) (bit locks low)))
+-- Lock bit k, of the region whose permalock bit is `low`. That bit 1: "a masked one with action 1 makes this region's field ignored", and what else is not
+-- refused changes nothing. That bit 0: "A new pair takes masked bits from the action, others from the old pair."
+abbrev pub newBit : ℕ → ℕ → ℕ → ℕ → ℕ
+newBit locks ld low k = pick (isSet locks low) (bit locks k) (pick (isSet ld (10 + k)) (bit ld k) (bit locks k))
 
 -- 0x82: "password (4), LD (3)."
 abbrev pub LockRows : Type 0
@@ -208,7 +214,7 @@ LockRows =
     → let given : ℕ = double p 0 in
     let ld : ℕ = byte p 4 * 65536 + byte p 5 * 256 + byte p 6 in
     let locks : ℕ = number image 20 in
-    let new : ℕ → ℕ = newBit locks ld in
+    let new : ℕ → ℕ → ℕ = newBit locks ld in
     comesTo image 0x82 p
     ≡ firstOf
     -- "PL not 7 or the top four bits of LD not 0: plain 17."
@@ -220,17 +226,17 @@ LockRows =
     ∷ (not (secured (accessStored image) given), plain image 0x13)
     -- "Mask touches User and User has 0 words: C3."
     ∷ ((isSet ld 11 || isSet ld 10) && eqb (wordsOf image 3) 0, tagError image 0xC3)
-    -- "If a pair whose permalock bit is set would change: C4, nothing changes.": kill, access, EPC, TID, User
-    ∷ (breaks locks ld 9 8, tagError image 0xC4)
-    ∷ (breaks locks ld 7 6, tagError image 0xC4)
-    ∷ (breaks locks ld 5 4, tagError image 0xC4)
-    ∷ (breaks locks ld 3 2, tagError image 0xC4)
-    ∷ (breaks locks ld 1 0, tagError image 0xC4)
+    -- "refuses the whole command with C4": kill, access, EPC, TID, User. "Refusal of any region comes before any store."
+    ∷ (refusesRegion locks ld 9 8, tagError image 0xC4)
+    ∷ (refusesRegion locks ld 7 6, tagError image 0xC4)
+    ∷ (refusesRegion locks ld 5 4, tagError image 0xC4)
+    ∷ (refusesRegion locks ld 3 2, tagError image 0xC4)
+    ∷ (refusesRegion locks ld 1 0, tagError image 0xC4)
     ∷ [])
     -- "Else all pairs are stored; tail, 00."
     (stored image 0x82 20
-    ((2 * new 9 + new 8)
-    ∷ (128 * new 7 + 64 * new 6 + 32 * new 5 + 16 * new 4 + 8 * new 3 + 4 * new 2 + 2 * new 1 + new 0)
+    ((2 * new 8 9 + new 8 8)
+    ∷ (128 * new 6 7 + 64 * new 6 6 + 32 * new 4 5 + 16 * new 4 4 + 8 * new 2 3 + 4 * new 2 2 + 2 * new 0 1 + new 0 0)
     ∷ []))
 
 -- 0x65: "kill password (4)."
@@ -302,9 +308,33 @@ pub record Standings (stored given : ℕ) : Type 0 where
   pub differs : given ≢ 0 → given ≢ stored → standingOf stored given ≡ Wrong
   pub zero-given : stored ≢ 0 → standingOf stored 0 ≡ Open
 
--- "A new pair takes masked bits from the action, others from the old pair."
-pub record NewPair (action old : ℕ) : Type 0 where
-  pub masked-00 : newPair 0b00 action old ≡ old
-  pub masked-01 : newPair 0b01 action old ≡ 2 * (old / 2) + action % 2
-  pub masked-10 : newPair 0b10 action old ≡ 2 * (action / 2) + old % 2
-  pub masked-11 : newPair 0b11 action old ≡ action
+-- What a Lock makes of one pair: the new pair, or 9 for a refusal
+abbrev pub pairAfter : ℕ → ℕ → ℕ → ℕ
+pairAfter old mask action = pick (refusesPair mask action old) 9 (newPair mask action old)
+
+-- All 64 of them. Row n has old pair n / 4 and mask n % 4, and in it the actions 00, 01, 10, 11 follow one another.
+abbrev pub PairTable : Type 0
+PairTable =
+    map (λ n. map (pairAfter (n / 4) (n % 4)) (0 ∷ 1 ∷ 2 ∷ 3 ∷ [])) (0 ∷ 1 ∷ 2 ∷ 3 ∷ 4 ∷ 5 ∷ 6 ∷ 7 ∷ 8 ∷ 9 ∷ 10 ∷ 11 ∷ 12 ∷ 13 ∷ 14 ∷ 15 ∷ [])
+    ≡
+    -- old pair 00: "masked bits from the action, others from the old pair"
+    ((0 ∷ 0 ∷ 0 ∷ 0 ∷ [])
+    ∷ (0 ∷ 1 ∷ 0 ∷ 1 ∷ [])
+    ∷ (0 ∷ 0 ∷ 2 ∷ 2 ∷ [])
+    ∷ (0 ∷ 1 ∷ 2 ∷ 3 ∷ [])
+    -- old pair 01, P3: nothing masked; "a masked permalock bit"; "only the password bit"; both
+    ∷ (1 ∷ 1 ∷ 1 ∷ 1 ∷ [])
+    ∷ (9 ∷ 1 ∷ 9 ∷ 1 ∷ [])
+    ∷ (1 ∷ 1 ∷ 9 ∷ 9 ∷ [])
+    ∷ (9 ∷ 1 ∷ 9 ∷ 1 ∷ [])
+    -- old pair 10, as 00
+    ∷ (2 ∷ 2 ∷ 2 ∷ 2 ∷ [])
+    ∷ (2 ∷ 3 ∷ 2 ∷ 3 ∷ [])
+    ∷ (0 ∷ 0 ∷ 2 ∷ 2 ∷ [])
+    ∷ (0 ∷ 1 ∷ 2 ∷ 3 ∷ [])
+    -- old pair 11, as 01
+    ∷ (3 ∷ 3 ∷ 3 ∷ 3 ∷ [])
+    ∷ (9 ∷ 3 ∷ 9 ∷ 3 ∷ [])
+    ∷ (9 ∷ 9 ∷ 3 ∷ 3 ∷ [])
+    ∷ (9 ∷ 3 ∷ 9 ∷ 3 ∷ [])
+    ∷ [])

@@ -7,7 +7,7 @@ use lib.Dec.{eqb, leb, ltb}
 use lib.ListN.{length, drop}
 use Rattle.frame.specs.Bytes.{pick, byte, number, double}
 use Rattle.image.specs.Image.{view, bankOf, wordAt, epcLength}
-use Rattle.tag.specs.Locks.{pairs, bitsOf, standing, isSecured, isWrong, killStanding, mayRead, mayWrite, newPairs, breaksPermalock}
+use Rattle.tag.specs.Locks.{pairs, bitsOf, standing, isSecured, isWrong, killStanding, mayRead, mayWrite, newPairs, refusesLock}
 use Rattle.tag.specs.declared.commands.Act.{Act}
 use Rattle.tag.specs.declared.commands.Act.the-variants.{PlainError, TagError, Notify, Give, Store, Set}
 use Rattle.tag.specs.declared.commands.Parsed.{Parsed}
@@ -123,12 +123,12 @@ unfoldable pub writeVerdict : View → Standing → ℕ → ℕ → ℕ → List
 writeVerdict v s bank pointer count words = admitted v s 0x10 (writeAct v s bank pointer count words)
 
 -- 0x82: "State: plain 13. Password: 16." And then: "Not secured: plain 13 (house)." "Mask touches User and User has 0 words: C3."
--- "If a pair whose permalock bit is set would change: C4, nothing changes. Else all pairs are stored"
+-- P3: "Refusal of any region comes before any store.": C4. "Else all pairs are stored"
 unfoldable pub lockAct : View → Standing → ℕ → ℕ → Act
 lockAct v s mask action =
     pick (not (isSecured s)) (PlainError 0x13)
     (pick (not (eqb (pairs mask .user) 0) && eqb (v .user .words) 0) (TagError 0xC3)
-    (pick (breaksPermalock (pairs (v .locks)) (newPairs (pairs mask) (pairs action) (pairs (v .locks)))) (TagError 0xC4)
+    (pick (refusesLock (pairs mask) (pairs action) (pairs (v .locks))) (TagError 0xC4)
     (Set 0x82 20 2 (bitsOf (newPairs (pairs mask) (pairs action) (pairs (v .locks)))))))
 
 unfoldable pub lockVerdict : View → Standing → ℕ → ℕ → Act

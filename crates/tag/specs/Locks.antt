@@ -73,12 +73,24 @@ mayWrite v s bank pointer count =
     (pick (eqb bank 2) (allows (pairs (v .locks) .tid) s)
     (allows (pairs (v .locks) .user) s)))
 
--- "The commands", 0x82: "A new pair takes masked bits from the action, others from the old pair."
+-- ---- "The commands", 0x82, with request P3: what a Lock makes of one pair, from its mask and action
+
+-- "For each region whose permalock bit is already 1: a masked permalock bit with action 0 refuses the whole command with C4 ..; if only the password bit
+-- is masked, a differing action refuses with C4 and an equal one changes nothing."
+unfoldable pub refusesPair : ℕ → ℕ → ℕ → Bool
+refusesPair mask action old =
+    permalocked old && pick (eqb (mask % 2) 1) (eqb (action % 2) 0) (eqb (mask / 2) 1 && not (eqb (action / 2) (old / 2)))
+
+-- "A new pair takes masked bits from the action, others from the old pair."
 unfoldable pub newBit : ℕ → ℕ → ℕ → ℕ
 newBit mask action old = pick (eqb mask 1) action old
 
+unfoldable pub maskedPair : ℕ → ℕ → ℕ → ℕ
+maskedPair mask action old = newBit (mask / 2) (action / 2) (old / 2) * 2 + newBit (mask % 2) (action % 2) (old % 2)
+
+-- "a masked one with action 1 makes this region's field ignored and the rest is carried out": where no pair refuses, one whose permalock bit is 1 stays
 unfoldable pub newPair : ℕ → ℕ → ℕ → ℕ
-newPair mask action old = newBit (mask / 2) (action / 2) (old / 2) * 2 + newBit (mask % 2) (action % 2) (old % 2)
+newPair mask action old = pick (permalocked old) old (maskedPair mask action old)
 
 unfoldable pub newPairs : Pairs → Pairs → Pairs → Pairs
 newPairs mask action old =
@@ -90,14 +102,11 @@ newPairs mask action old =
       user = newPair (mask .user) (action .user) (old .user);
     }
 
--- 0x82: "If a pair whose permalock bit is set would change: C4"
-unfoldable pub breaks : ℕ → ℕ → Bool
-breaks old new = permalocked old && not (eqb new old)
-
-unfoldable pub breaksPermalock : Pairs → Pairs → Bool
-breaksPermalock old new =
-    breaks (old .kill) (new .kill)
-    || breaks (old .access) (new .access)
-    || breaks (old .epc) (new .epc)
-    || breaks (old .tid) (new .tid)
-    || breaks (old .user) (new .user)
+-- "Refusal of any region comes before any store."
+unfoldable pub refusesLock : Pairs → Pairs → Pairs → Bool
+refusesLock mask action old =
+    refusesPair (mask .kill) (action .kill) (old .kill)
+    || refusesPair (mask .access) (action .access) (old .access)
+    || refusesPair (mask .epc) (action .epc) (old .epc)
+    || refusesPair (mask .tid) (action .tid) (old .tid)
+    || refusesPair (mask .user) (action .user) (old .user)

@@ -7,8 +7,8 @@ use crate::locks::Standing;
 use crate::locks::is_secured;
 use crate::locks::pairs_of;
 use crate::new_locks::bits_of;
-use crate::new_locks::breaks_permalock;
 use crate::new_locks::new_pairs;
+use crate::new_locks::refuses_lock;
 use image::header::View;
 ghost use mathlib.Core.Path.{_≡_};
 ghost use mathlib.Core.Bool.{not, _&&_};
@@ -39,16 +39,16 @@ pub(crate) fn lock_act(v: View, s: Standing, mask: usize, action: usize) -> Act
     if misses_user(v, masked) {
         return Act::TagError(0xC3);
     }
+    let asked = pairs_of(action);
     let old = pairs_of(v.locks);
-    let new = new_pairs(masked, pairs_of(action), old);
-    if breaks_permalock(old, new) {
+    if refuses_lock(masked, asked, old) {
         return Act::TagError(0xC4);
     }
     Act::Set {
         code: 0x82,
         at: 20,
         count: 2,
-        value: bits_of(new),
+        value: bits_of(new_pairs(masked, asked, old)),
     }
 }
 

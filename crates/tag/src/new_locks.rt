@@ -1,9 +1,9 @@
-// What a Lock makes of the lock pairs (document 01, "The commands", 0x82).
+// What a Lock makes of the lock pairs (document 01, "The commands", 0x82, with request P3).
 use crate::locks::Pairs;
 ghost use mathlib.Core.Path.{_≡_};
 ghost use Prim.Native.Nat.{_<_};
 ghost use Rattle.tag.specs.Bounds.{Paired};
-ghost use Rattle.tag.specs.Locks.{bitsOf, newBit, newPair, newPairs, breaks, breaksPermalock};
+ghost use Rattle.tag.specs.Locks.{bitsOf, newBit, maskedPair, newPair, newPairs, refusesPair, refusesLock};
 
 pub(crate) fn bits_of(p: Pairs) -> usize
     requires { ⌜ Paired p ⌝ }
@@ -23,12 +23,24 @@ fn new_bit(mask: usize, action: usize, old: usize) -> usize
     old
 }
 
+fn masked_pair(mask: usize, action: usize, old: usize) -> usize
+    requires { ⌜ (action < 4) × (old < 4) ⌝ }
+    ensures { λ r. ⌜ r ≡ maskedPair mask action old ⌝ }
+    ensures { λ r. ⌜ r < 4 ⌝ }
+{
+    new_bit(mask / 2, action / 2, old / 2) * 2 + new_bit(mask % 2, action % 2, old % 2)
+}
+
+// Where no pair refuses, one whose permalock bit is set stays as it is, whatever the Lock asks of it.
 fn new_pair(mask: usize, action: usize, old: usize) -> usize
     requires { ⌜ (action < 4) × (old < 4) ⌝ }
     ensures { λ r. ⌜ r ≡ newPair mask action old ⌝ }
     ensures { λ r. ⌜ r < 4 ⌝ }
 {
-    new_bit(mask / 2, action / 2, old / 2) * 2 + new_bit(mask % 2, action % 2, old % 2)
+    if old % 2 == 1 {
+        return old;
+    }
+    masked_pair(mask, action, old)
 }
 
 pub(crate) fn new_pairs(mask: Pairs, action: Pairs, old: Pairs) -> Pairs
@@ -45,32 +57,36 @@ pub(crate) fn new_pairs(mask: Pairs, action: Pairs, old: Pairs) -> Pairs
     }
 }
 
-fn breaks_pair(old: usize, new: usize) -> bool
-    ensures { λ r. ⌜ r ≡ breaks old new ⌝ }
+// A pair whose permalock bit is set refuses to have that bit cleared, and its password bit changed alone.
+fn refuses_pair(mask: usize, action: usize, old: usize) -> bool
+    ensures { λ r. ⌜ r ≡ refusesPair mask action old ⌝ }
 {
     if old % 2 != 1 {
         return false;
     }
-    if new == old {
+    if mask % 2 == 1 {
+        return action % 2 == 0;
+    }
+    if mask / 2 != 1 {
         return false;
     }
-    true
+    action / 2 != old / 2
 }
 
-pub(crate) fn breaks_permalock(old: Pairs, new: Pairs) -> bool
-    ensures { λ r. ⌜ r ≡ breaksPermalock old new ⌝ }
+pub(crate) fn refuses_lock(mask: Pairs, action: Pairs, old: Pairs) -> bool
+    ensures { λ r. ⌜ r ≡ refusesLock mask action old ⌝ }
 {
-    if breaks_pair(old.kill, new.kill) {
+    if refuses_pair(mask.kill, action.kill, old.kill) {
         return true;
     }
-    if breaks_pair(old.access, new.access) {
+    if refuses_pair(mask.access, action.access, old.access) {
         return true;
     }
-    if breaks_pair(old.epc, new.epc) {
+    if refuses_pair(mask.epc, action.epc, old.epc) {
         return true;
     }
-    if breaks_pair(old.tid, new.tid) {
+    if refuses_pair(mask.tid, action.tid, old.tid) {
         return true;
     }
-    breaks_pair(old.user, new.user)
+    refuses_pair(mask.user, action.user, old.user)
 }

@@ -38,16 +38,13 @@ pairs-of-requires-2 c κs = search needs
 pairs-of-requires-3 : tie.Need-pairs-of-requires-3
 pairs-of-requires-3 c κs = search needs
 
-new-pairs-requires : tie.Need-new-pairs-requires
-new-pairs-requires c κs = search needs
-
-breaks-permalock-requires : tie.Need-breaks-permalock-requires
-breaks-permalock-requires c κs = search needs
+refuses-lock-requires : tie.Need-refuses-lock-requires
+refuses-lock-requires c κs = search needs
 
 returns-3 : tie.Need-returns-3
 unfolding lockAct
 returns-3 c =
-    let past2 = c .before .before .before .before .before in
+    let past2 = c .before .before .before .before in
     let past1 = past2 .before .before .before in
     simp (
       ← (past1 .before .is-secured .ensures),
@@ -55,14 +52,16 @@ returns-3 c =
       ← (past2 .before .before .pairs-of .ensures .0),
       ← (past2 .before .misses-user .ensures),
       past2 .if2 .left,
-      ← (c .before .before .before .before .pairs-of2 .ensures .0),
-      ← (c .before .before .before .pairs-of3 .ensures .0),
-      ← (c .before .before .new-pairs .ensures .0),
-      ← (c .before .breaks-permalock .ensures),
+      ← (c .before .before .before .pairs-of2 .ensures .0),
+      ← (c .before .before .pairs-of3 .ensures .0),
+      ← (c .before .refuses-lock .ensures),
       c .if3 .taken,
       pick-true,
       pick-false,
     )
+
+new-pairs-requires : tie.Need-new-pairs-requires
+new-pairs-requires c κs = search needs
 
 bits-of-requires : tie.Need-bits-of-requires
 bits-of-requires c κs = search needs
@@ -70,8 +69,8 @@ bits-of-requires c κs = search needs
 returns-4 : tie.Need-returns-4
 unfolding lockAct
 returns-4 c =
-    let past3 = c .before in
-    let past2 = past3 .before .before .before .before .before in
+    let past3 = c .before .before in
+    let past2 = past3 .before .before .before .before in
     let past1 = past2 .before .before .before in
     simp (
       ← (past1 .before .is-secured .ensures),
@@ -79,12 +78,12 @@ returns-4 c =
       ← (past2 .before .before .pairs-of .ensures .0),
       ← (past2 .before .misses-user .ensures),
       past2 .if2 .left,
-      ← (past3 .before .before .before .before .pairs-of2 .ensures .0),
-      ← (past3 .before .before .before .pairs-of3 .ensures .0),
-      ← (past3 .before .before .new-pairs .ensures .0),
-      ← (past3 .before .breaks-permalock .ensures),
+      ← (past3 .before .before .before .pairs-of2 .ensures .0),
+      ← (past3 .before .before .pairs-of3 .ensures .0),
+      ← (past3 .before .refuses-lock .ensures),
       past3 .if3 .left,
       pick-false,
+      ← (c .before .new-pairs .ensures .0),
       c .bits-of .ensures,
     )
 
@@ -99,8 +98,8 @@ lock-act-spec =
     returns-2
     pairs-of-requires-2
     pairs-of-requires-3
-    new-pairs-requires
-    breaks-permalock-requires
+    refuses-lock-requires
     returns-3
+    new-pairs-requires
     bits-of-requires
     returns-4)
