@@ -124,6 +124,20 @@ enum Reason {
 }
 
 impl Bench {
+    /// A bench at the start: this tag, the shortest output that will do, cursor and counts at 0.
+    pub fn new(image: Vec<u8>) -> Bench {
+        Bench {
+            image,
+            output: vec![0; LONGEST_ANSWER],
+            cursor: 0,
+            good: 0,
+            error: 0,
+            dropped: [0; 5],
+            length: 0,
+            reason: 0,
+        }
+    }
+
     /// One call on the input: the paper's answer number.
     pub fn call(&mut self, input: &[u8]) -> u64 {
         // "The call reports the length written, 0 in all other cases."

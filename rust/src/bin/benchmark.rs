@@ -150,16 +150,7 @@ fn run_proved(image: &[u8], input: &[u8]) -> (f64, [u64; STATE_LENGTH]) {
 }
 
 fn run_model(image: &[u8], input: &[u8]) -> (f64, [u64; STATE_LENGTH]) {
-    let mut bench = Bench {
-        image: image.to_vec(),
-        output: vec![0; 136],
-        cursor: 0,
-        good: 0,
-        error: 0,
-        dropped: [0; 5],
-        length: 0,
-        reason: 0,
-    };
+    let mut bench = Bench::new(image.to_vec());
     let started = Instant::now();
     loop {
         let number = bench.call(black_box(input));

@@ -70,15 +70,14 @@ fn start(random: &mut Random) -> Bench {
     };
     let [good, error, dropped @ ..] = generator::counts(random);
     Bench {
-        image,
         output: random.bytes(room),
-        cursor: 0,
         good,
         error,
         dropped,
         // what stands there before a call is not looked at
         length: random.number(),
         reason: random.pick(&[0, 1, 5, 6, u64::MAX]),
+        ..Bench::new(image)
     }
 }
 

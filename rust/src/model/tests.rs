@@ -5,16 +5,7 @@ use super::{Bench, FULL_COUNT};
 use crate::generator::{frame, sample_image, set_double};
 
 fn fresh() -> Bench {
-    Bench {
-        image: sample_image(),
-        output: vec![0; 136],
-        cursor: 0,
-        good: 0,
-        error: 0,
-        dropped: [0; 5],
-        length: 0,
-        reason: 0,
-    }
+    Bench::new(sample_image())
 }
 
 /// A fresh bench with these seven counts.
