@@ -357,6 +357,26 @@ fn lock_parameters(random: &mut Random, image: &[u8]) -> Vec<u8> {
     parameters
 }
 
+/// Draws a tag's lock bits anew, and a Lock for them with the right password. It asks anything of
+/// one region: alone, beside another whose pair changes, or beside another that refuses.
+pub fn lock_anew(random: &mut Random, image: &mut [u8]) -> Vec<u8> {
+    let region = random.below(5);
+    let mut old = random.below(1024);
+    let mut mask = random.below(4) << (2 * region);
+    let mut action = random.below(1024);
+    if random.percent(67) {
+        let other = 2 * ((region + random.between(1, 4)) % 5);
+        old = old & !(1 << other) | random.below(2) << other;
+        mask |= random.between(1, 3) << other;
+        // every masked bit differs: a permalocked pair refuses that, another changes
+        action = action & !(3 << other) | !old & 3 << other;
+    }
+    set_double(image, 20, old);
+    let mut parameters = password(image, 4).unwrap_or_default().to_vec();
+    parameters.extend(&((mask << 10 | action) as u32).to_be_bytes()[1..]);
+    frame(0x82, &parameters)
+}
+
 /// A command's code and parameters, well made or of a wrong length.
 pub fn command(random: &mut Random, image: &[u8]) -> (u8, Vec<u8>) {
     let (code, mut parameters) = match random.below(24) {

@@ -1,7 +1,7 @@
 //! An independent implementation of the scope document ("Bench reader and tag: exact rules") and of
-//! the later change "Why was the byte dropped?", written from these papers alone. It shares no code
-//! and no definition with the proved bench, so a mistake would have to be made twice to stay
-//! unseen. Quoted lines are the papers'.
+//! the later changes "Why was the byte dropped?" and "Locks put right for repeated permalocks",
+//! written from these papers alone. It shares no code and no definition with the proved bench, so a
+//! mistake would have to be made twice to stay unseen. Quoted lines are the papers'.
 
 /// Declares the counted branches: one name for each way through the rules.
 macro_rules! branches {
@@ -11,7 +11,8 @@ macro_rules! branches {
         enum Branch { $($name),* }
 
         /// The names of the counted branches, in the order of their counters.
-        pub const BRANCHES: &[&str] = &[$(stringify!($name)),*];
+        #[cfg(feature = "count-branches")]
+        const BRANCHES: &[&str] = &[$(stringify!($name)),*];
     };
 }
 
@@ -46,28 +47,15 @@ branches! {
     WRITE_RESERVED WRITE_EPC WRITE_TID WRITE_USER
     // Lock
     LOCK_PL LOCK_TOP_BITS LOCK_STATE LOCK_PASSWORD LOCK_NOT_SECURED LOCK_NO_USER
-    LOCK_USER_THERE LOCK_USER_NOT_MASKED LOCK_PERMALOCK_CHANGE LOCK_PERMALOCK_SAME
-    LOCK_NO_PERMALOCK LOCK_GOOD
+    LOCK_USER_THERE LOCK_USER_NOT_MASKED LOCK_NO_PERMALOCK LOCK_PERMALOCK_LIFTED
+    LOCK_PERMALOCK_REPEATED LOCK_REPEATED_WITH_OTHER_PASSWORD_BIT LOCK_PASSWORD_BIT_DIFFERS
+    LOCK_PASSWORD_BIT_EQUAL LOCK_PERMALOCKED_NOT_MASKED LOCK_REFUSED LOCK_GOOD
     // Kill
     KILL_PL KILL_STATE KILL_STORED_ZERO KILL_DIFFERENT KILL_GOOD
 }
 
 #[cfg(feature = "count-branches")]
-mod counters {
-    use std::sync::atomic::{AtomicU64, Ordering};
-
-    static HITS: [AtomicU64; super::BRANCHES.len()] =
-        [const { AtomicU64::new(0) }; super::BRANCHES.len()];
-
-    pub fn add(branch: super::Branch) {
-        HITS[branch as usize].fetch_add(1, Ordering::Relaxed);
-    }
-
-    /// How often each branch was taken since the program started.
-    pub fn read() -> Vec<u64> {
-        HITS.iter().map(|h| h.load(Ordering::Relaxed)).collect()
-    }
-}
+mod counters;
 
 #[cfg(feature = "count-branches")]
 pub use counters::read as branch_counts;
@@ -625,6 +613,11 @@ const ACCESS_PAIR: usize = 6;
 const EPC_PAIR: usize = 4;
 const TID_PAIR: usize = 2;
 const USER_PAIR: usize = 0;
+const REGIONS: [usize; 5] = [KILL_PAIR, ACCESS_PAIR, EPC_PAIR, TID_PAIR, USER_PAIR];
+
+/// "The high bit of a pair is the password bit, the low bit the permalock bit"
+const PASSWORD_BIT: usize = 2;
+const PERMALOCK_BIT: usize = 1;
 
 /// Whether the region of the pair whose low bit is at `shift` is free to a command that is
 /// secured or not: the table under "Lock bits".
@@ -872,28 +865,78 @@ fn lock(image: &mut [u8], parameters: &[u8]) -> Answer {
     } else {
         hit!(LOCK_USER_NOT_MASKED);
     }
-    // "A new pair takes masked bits from the action, others from the old pair."
+    lock_regions(image, mask, action)
+}
+
+/// A Lock that got as far as the pairs. "Refusal of any region comes before any store."
+fn lock_regions(image: &mut [u8], mask: usize, action: usize) -> Answer {
     let old = double(image, 20);
-    let new = (old & !mask) | (action & mask);
-    // "If a pair whose permalock bit is set would change: C4, nothing changes."
-    for shift in [KILL_PAIR, ACCESS_PAIR, EPC_PAIR, TID_PAIR, USER_PAIR] {
-        let old_pair = old >> shift & 3;
-        let new_pair = new >> shift & 3;
-        if old_pair & 1 != 0 {
-            if new_pair != old_pair {
-                hit!(LOCK_PERMALOCK_CHANGE);
-                return tag_error(0xC4, image);
-            }
-            hit!(LOCK_PERMALOCK_SAME);
-        } else {
-            hit!(LOCK_NO_PERMALOCK);
-        }
+    let fields = REGIONS.map(|shift| Field {
+        old: old >> shift & 3,
+        mask: mask >> shift & 3,
+        action: action >> shift & 3,
+    });
+    let pairs = fields.map(new_pair);
+    #[cfg(feature = "count-branches")]
+    counters::add_lock(&fields, &pairs);
+    let mut new = 0;
+    for (pair, shift) in pairs.into_iter().zip(REGIONS) {
+        // "refuses the whole command with C4"
+        let Some(pair) = pair else {
+            hit!(LOCK_REFUSED);
+            return tag_error(0xC4, image);
+        };
+        new |= pair << shift;
     }
     // "Else all pairs are stored; tail, 00."
     hit!(LOCK_GOOD);
     image[20] = (new / 256) as u8;
     image[21] = (new % 256) as u8;
     done(0x82, image)
+}
+
+/// What a Lock asks of one region: the old pair, and the two bits of its mask and of its action.
+#[derive(Clone, Copy)]
+struct Field {
+    old: usize,
+    mask: usize,
+    action: usize,
+}
+
+/// The pair that a field leads to, or none where it refuses the command.
+fn new_pair(Field { old, mask, action }: Field) -> Option<usize> {
+    // "A new pair takes masked bits from the action, others from the old pair."
+    let taken = (old & !mask) | (action & mask);
+    if old & PERMALOCK_BIT == 0 {
+        hit!(LOCK_NO_PERMALOCK);
+        return Some(taken);
+    }
+    // "For each region whose permalock bit is already 1: a masked permalock bit with action 0 refuses"
+    if mask & PERMALOCK_BIT != 0 {
+        if action & PERMALOCK_BIT == 0 {
+            hit!(LOCK_PERMALOCK_LIFTED);
+            return None;
+        }
+        // "a masked one with action 1 makes this region's field ignored", its password bit too
+        if taken == old {
+            hit!(LOCK_PERMALOCK_REPEATED);
+        } else {
+            hit!(LOCK_REPEATED_WITH_OTHER_PASSWORD_BIT);
+        }
+        return Some(old);
+    }
+    // "if only the password bit is masked, a differing action refuses with C4"
+    if mask & PASSWORD_BIT != 0 {
+        if action & PASSWORD_BIT != old & PASSWORD_BIT {
+            hit!(LOCK_PASSWORD_BIT_DIFFERS);
+            return None;
+        }
+        // "and an equal one changes nothing"
+        hit!(LOCK_PASSWORD_BIT_EQUAL);
+        return Some(old);
+    }
+    hit!(LOCK_PERMALOCKED_NOT_MASKED);
+    Some(old)
 }
 
 /// "kill password (4). PL not 4: plain 17. State: plain 12. Stored one zero: D0. Different:

@@ -136,17 +136,16 @@ fn trial(seed: u64, number: u64, seen: &mut Seen) -> u64 {
     let mut proved = Proved::of(&bench);
     let mut calls = 0;
     for _ in 0..random.between(1, 12) {
-        let input = generator::input(&mut random, &bench.image);
-        bench.cursor = start_cursor(&mut random, &input);
-        proved.state[CURSOR] = bench.cursor;
-        let Some(made) = walk(&mut proved, &mut bench, &input, seen) else {
+        let made = if bench.image.len() >= 24 && random.percent(20) {
+            row_of_locks(&mut random, &mut proved, &mut bench, seen)
+        } else {
+            one_input(&mut random, &mut proved, &mut bench, seen)
+        };
+        let Some(made) = made else {
             println!("trial {number}, seed {seed}; replay: compare 1 {seed} {number}");
             exit(1);
         };
         calls += made;
-        if random.percent(10) {
-            wrong_state_length(&mut random, &proved, &input);
-        }
         // a killed tag is brought back now and then, so that later calls see more than its state
         if bench.image.len() >= 24 && bench.image[22] == 1 && random.percent(60) {
             bench.image[22] = 0;
@@ -154,6 +153,42 @@ fn trial(seed: u64, number: u64, seen: &mut Seen) -> u64 {
         }
     }
     calls
+}
+
+/// Any input, from its start or elsewhere.
+fn one_input(
+    random: &mut Random,
+    proved: &mut Proved,
+    bench: &mut Bench,
+    seen: &mut Seen,
+) -> Option<u64> {
+    let input = generator::input(random, &bench.image);
+    bench.cursor = start_cursor(random, &input);
+    proved.state[CURSOR] = bench.cursor;
+    let calls = walk(proved, bench, &input, seen)?;
+    if random.percent(10) {
+        wrong_state_length(random, proved, &input);
+    }
+    Some(calls)
+}
+
+/// Locks one by one, each on lock bits of its own: what a Lock may ask of a region comes too seldom
+/// among all other commands, and a row on the same bits would soon have every pair permalocked.
+fn row_of_locks(
+    random: &mut Random,
+    proved: &mut Proved,
+    bench: &mut Bench,
+    seen: &mut Seen,
+) -> Option<u64> {
+    let mut calls = 0;
+    for _ in 0..12 {
+        let input = generator::lock_anew(random, &mut bench.image);
+        proved.image.clone_from(&bench.image);
+        bench.cursor = 0;
+        proved.state[CURSOR] = 0;
+        calls += walk(proved, bench, &input, seen)?;
+    }
+    Some(calls)
 }
 
 /// A state that does not have ten numbers is refused, and nothing changes.
@@ -200,14 +235,17 @@ fn finish(seed: u64, trials: u64, calls: u64, seen: &Seen) {
         }
     }
     let counts = model::branch_counts();
-    let named = || model::BRANCHES.iter().zip(&counts);
-    if let Some((name, least)) = named().min_by_key(|(_, c)| **c) {
+    if let Some((name, least)) = counts.iter().min_by_key(|(_, c)| *c) {
         println!(
             "{} branches of the model; least often {name}: {least}",
             counts.len()
         );
     }
-    let never: Vec<_> = named().filter(|(_, c)| **c == 0).map(|(n, _)| n).collect();
+    let never: Vec<_> = counts
+        .iter()
+        .filter(|(_, c)| *c == 0)
+        .map(|(n, _)| n)
+        .collect();
     if !never.is_empty() {
         println!("NEVER REACHED: {never:?}");
         exit(1);
