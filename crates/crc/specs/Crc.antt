@@ -45,3 +45,8 @@ crc direction polynomial register (b ∷ bytes) = crc direction polynomial (byte
 -- the tag's own: polynomial 1021 hex, preset FFFF, complemented
 unfoldable pub tagCrc : List ℕ → ℕ
 tagCrc bytes = 0xFFFF - crc HighFirst 0x1021 0xFFFF bytes
+
+-- the one of source document 003, "CRC16 Calculation": polynomial 8408 hex, lowest bit first, preset FFFF, not complemented. On the wire its
+-- high byte goes first: `crc_msb = value >> 0x08`, `return bytearray([crc_msb, crc_lsb])`.
+unfoldable pub readerCrc : List ℕ → ℕ
+readerCrc bytes = crc LowFirst 0x8408 0xFFFF bytes

@@ -1,4 +1,8 @@
-// CRC-16, worked bit by bit (document 01, "The commands": "CRC-16 of PC and EPC").
+// CRC-16, worked bit by bit (document 01, "The commands": "CRC-16 of PC and EPC"). `lookup` has it from tables.
+pub mod high_first;
+pub mod lookup;
+pub mod low_first;
+
 ghost use mathlib.Core.Path.{_≡_};
 ghost use Rattle.crc.specs.Crc.{bitStep, entered, byteStep, crc, tagCrc};
 
