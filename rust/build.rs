@@ -1,5 +1,6 @@
 //! Points the linker at the static library of the proved bench, `target/staticlib/libembed.a`
-//! of the repository. `rt staticlib embed` at the repository's top makes it.
+//! of the repository. `rt staticlib embed` at the repository's top makes it. Under the feature
+//! `engines` the benchmark of the CRC engines takes `libengines.a` beside it, which `rt staticlib engines` makes.
 
 use std::env;
 use std::path::Path;
@@ -16,4 +17,9 @@ fn main() {
     }
     println!("cargo:rustc-link-search=native={}", folder.display());
     println!("cargo:rustc-link-lib=static=embed");
+    if env::var_os("CARGO_FEATURE_ENGINES").is_some() {
+        let engines = folder.join("libengines.a");
+        println!("cargo:rerun-if-changed={}", engines.display());
+        println!("cargo:rustc-link-arg-bin=crc={}", engines.display());
+    }
 }
