@@ -6,7 +6,7 @@ use lib.ListN.{length, drop, getD, drop-of-length-le}
 use lib.Seq.{drop-cons}
 use mathlib.Core.List.{List}
 use mathlib.Core.Path.{_≡_}
-use native.Mathlib.Numerals.{add-one}
+use native.Mathlib.Numerals.{add-one, add-two}
 use native.Mathlib.Omega.{arith}
 use Rattle.crc.specs.Crc.{leaving, shifted, added, bitStep, bitSteps, byteStep, crc}
 use Rattle.crc.specs.declared.Direction.{Direction}
@@ -58,3 +58,20 @@ module _ (direction : Direction) (polynomial : ℕ) where
     pub bytes-none : length bytes ≤ i → crc direction polynomial register (drop i bytes) ≡ register
     unfolding crc
     bytes-none behind = rw (drop-of-length-le bytes behind)
+
+    -- two of them
+    pub two-bytes-next : 2 ≤ length bytes - i
+        → crc direction polynomial (byteStep direction polynomial (byteStep direction polynomial register (getD bytes i 0)) (getD bytes (i + 1) 0)) (drop (i + 2) bytes)
+        ≡ crc direction polynomial register (drop i bytes)
+    unfolding crc
+    two-bytes-next inside =
+        let next : suc i < length bytes = omega arith in
+        rw (add-one i, add-two i, drop-cons bytes i 0 (omega arith), drop-cons bytes (suc i) 0 next)
+
+    -- and the last one
+    pub last-byte : i < length bytes → length bytes - i < 2
+        → byteStep direction polynomial register (getD bytes i 0) ≡ crc direction polynomial register (drop i bytes)
+    unfolding crc
+    last-byte inside behind =
+        let over : length bytes ≤ suc i = omega arith in
+        rw (drop-cons bytes i 0 inside, drop-of-length-le bytes over)

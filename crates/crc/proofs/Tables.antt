@@ -65,7 +65,7 @@ module _ (register b : ℕ) (word : register < 0x10000) (byte : b < 256) where
 
 -- ---- these eight only move
 
-up : (polynomial n x : ℕ) → x * 2 ^ n < 0x10000 → bitSteps HighFirst polynomial n x ≡ x * 2 ^ n
+pub up : (polynomial n x : ℕ) → x * 2 ^ n < 0x10000 → bitSteps HighFirst polynomial n x ≡ x * 2 ^ n
 unfolding bitSteps
 up polynomial zero x h = omega arith
 up polynomial (suc n) x h =
@@ -142,7 +142,7 @@ module _ (direction : Direction) (polynomial : ℕ) (small : polynomial < 0x1000
       ∙ steps-xor direction polynomial small 8 a (entered direction register b) left (entered-word direction register b word byte)
 
   -- sixteen steps are eight, and eight more
-  sixteen : (a : ℕ) → bitSteps direction polynomial 8 (bitSteps direction polynomial 8 a) ≡ bitSteps direction polynomial 16 a
+  pub sixteen : (a : ℕ) → bitSteps direction polynomial 8 (bitSteps direction polynomial 8 a) ≡ bitSteps direction polynomial 16 a
   unfolding bitSteps
   sixteen a = refl
 

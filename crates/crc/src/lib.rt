@@ -1,7 +1,8 @@
-// CRC-16, worked bit by bit (document 01, "The commands": "CRC-16 of PC and EPC"). `lookup` has it from tables.
+// CRC-16, worked bit by bit (document 01, "The commands": "CRC-16 of PC and EPC"). `lookup` has it from tables, `shifts` two bytes at a time for the tag.
 pub mod high_first;
 pub mod lookup;
 pub mod low_first;
+pub mod shifts;
 
 ghost use mathlib.Core.Path.{_≡_};
 ghost use Rattle.crc.specs.Crc.{bitStep, entered, byteStep, crc, tagCrc};

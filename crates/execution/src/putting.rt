@@ -54,5 +54,5 @@ pub(crate) fn crc_of_epc(image: &[u8]) -> u16
     let place = epc_span(image);
     let from = place.from;
     let to = from + place.count;
-    crc::tag_crc(&image[from..to])
+    crc::shifts::tag_crc(&image[from..to])
 }
