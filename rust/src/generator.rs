@@ -1,6 +1,8 @@
 //! Images, commands and inputs for the tests, drawn from a seed. Values are drawn near the bounds
 //! of the rules, on both sides, since that is where two readings of a rule part.
 
+use crate::model::crc16;
+
 /// A xorshift generator: the same seed gives the same run.
 pub struct Random(u64);
 
@@ -81,7 +83,7 @@ pub fn password(image: &[u8], at: usize) -> Option<[u8; 4]> {
 pub fn sample_image() -> Vec<u8> {
     let words: [u16; 12] = [1, 86, 4, 24, 8, 32, 3, 48, 16, 54, 0, 0x00C9];
     let epc: [u16; 8] = [
-        0x0000, 0x3400, 0x3075, 0x1FEB, 0x705C, 0x5904, 0xE3D5, 0x0D70,
+        0x3A76, 0x3400, 0x3075, 0x1FEB, 0x705C, 0x5904, 0xE3D5, 0x0D70,
     ];
     let mut image: Vec<u8> = words.iter().flat_map(|w| w.to_be_bytes()).collect();
     image.extend([0x00, 0x00, 0xFF, 0xFF, 0x00, 0x00, 0xFF, 0xFF]);
@@ -142,6 +144,7 @@ fn laid_out(random: &mut Random, words: [usize; 4]) -> Vec<u8> {
         random.below(most + 1)
     };
     set_epc_length(&mut image, length);
+    set_crc_word(&mut image);
     image
 }
 
@@ -186,11 +189,55 @@ fn set_epc_length(image: &mut [u8], length: usize) {
     image[pc] = (length as u8) << 3 | image[pc] & 7;
 }
 
-/// Moves one rule of a good image to its bound or one beside it.
+/// The PC's top five bits.
+fn epc_length(image: &[u8]) -> Option<usize> {
+    let pc = double(image.get(..24)?, offset_place(1)) + 2;
+    image.get(pc).map(|high| usize::from(high >> 3))
+}
+
+/// Makes EPC word 0 the CRC-16 of PC and EPC, as far as these are in the image.
+pub fn set_crc_word(image: &mut [u8]) {
+    let Some(length) = epc_length(image) else {
+        return;
+    };
+    let start = double(image, offset_place(1));
+    if let Some(protected) = image.get(start + 2..start + 4 + 2 * length) {
+        let crc = crc16(protected);
+        set_double(image, start, usize::from(crc));
+    }
+}
+
+/// Moves one rule of a good image to its bound or one beside it. The CRC word is put right for what
+/// then stands there, so that an image breaks that rule alone, or none.
 pub fn poke_image(random: &mut Random, image: &mut Vec<u8>) {
     if image.len() < 24 {
         return;
     }
+    if random.percent(10) {
+        poke_crc(random, image);
+    } else {
+        poke_layout(random, image);
+        set_crc_word(image);
+    }
+}
+
+/// One bit off: mostly in the CRC word itself, else in the PC or the EPC that it is made of.
+fn poke_crc(random: &mut Random, image: &mut [u8]) {
+    let Some(length) = epc_length(image) else {
+        return;
+    };
+    let bytes = if random.percent(60) {
+        2
+    } else {
+        4 + 2 * length
+    };
+    let at = double(image, offset_place(1)) + random.below(bytes);
+    if at < image.len() {
+        image[at] ^= 1 << random.below(8);
+    }
+}
+
+fn poke_layout(random: &mut Random, image: &mut Vec<u8>) {
     match random.below(12) {
         0 => image.truncate(random.below(25)),
         1 => set_double(image, 0, random.pick(&[0, 1, 2, 257])),
@@ -317,18 +364,66 @@ fn aim(random: &mut Random, image: &[u8]) -> (Vec<u8>, usize, usize, usize) {
 }
 
 fn write_parameters(random: &mut Random, image: &[u8]) -> Vec<u8> {
+    if image.len() >= 24 && random.percent(25) {
+        return epc_write_parameters(random, image);
+    }
     let (mut parameters, bank, pointer, count) = aim(random, image);
     let mut data = random.bytes((2 * count).min(71));
-    if bank == 1 && pointer <= 1 && image.len() >= 24 {
-        // the new L at its bound or beside it
-        let most = double(image, words_place(1)).saturating_sub(2);
-        let place = 2 * (1 - pointer);
-        if place < data.len() && random.percent(80) {
-            data[place] = (random.near(most).min(31) as u8) << 3 | data[place] & 7;
-        }
+    if bank == 1 && random.percent(80) {
+        set_new_length(random, image, pointer, &mut data);
     }
     parameters.extend(data);
     parameters
+}
+
+/// A Write to the EPC bank: from the CRC word or the PC on, or one that ends or starts about where
+/// the EPC ends.
+fn epc_write_parameters(random: &mut Random, image: &[u8]) -> Vec<u8> {
+    let mut parameters = some_password(random, image, 4).to_vec();
+    let epc_end = 2 + epc_length(image).unwrap_or(0);
+    let (pointer, count) = match random.below(8) {
+        0 => (0, random.between(1, epc_end)),
+        1..=3 => (1, random.between(1, epc_end)),
+        4 | 5 => {
+            let end = random.near(epc_end);
+            let count = random.between(1, end);
+            (end - count, count)
+        }
+        _ => (random.near(epc_end), random.pick(&[1, 1, 2, 3])),
+    };
+    let count = count.min(32);
+    let mut data = random.bytes(2 * count);
+    set_new_length(random, image, pointer, &mut data);
+    if pointer == 0 && random.percent(50) {
+        // what stands there already is refused just as well
+        let start = double(image, offset_place(1));
+        if let Some(same) = image.get(start..start + 2 * count) {
+            data.copy_from_slice(same);
+        }
+    }
+    parameters.push(1);
+    parameters.extend((pointer as u16).to_be_bytes());
+    parameters.extend((count as u16).to_be_bytes());
+    parameters.extend(data);
+    parameters
+}
+
+/// Where the data have a new PC, its L at the bound of the bank, at the old L, beside these, or
+/// anywhere between.
+fn set_new_length(random: &mut Random, image: &[u8], pointer: usize, data: &mut [u8]) {
+    let (Some(old), Some(header)) = (epc_length(image), image.get(..24)) else {
+        return;
+    };
+    let most = double(header, words_place(1)).saturating_sub(2);
+    let length = match random.below(4) {
+        0 | 1 => random.near(most),
+        2 => random.near(old),
+        _ => random.below(most + 1),
+    };
+    if pointer <= 1 && 2 * (1 - pointer) < data.len() {
+        let place = 2 * (1 - pointer);
+        data[place] = (length.min(31) as u8) << 3 | data[place] & 7;
+    }
 }
 
 fn lock_parameters(random: &mut Random, image: &[u8]) -> Vec<u8> {

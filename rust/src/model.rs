@@ -1,7 +1,10 @@
 //! An independent implementation of the scope document ("Bench reader and tag: exact rules") and of
-//! the later changes "Why was the byte dropped?" and "Locks put right for repeated permalocks",
-//! written from these papers alone. It shares no code and no definition with the proved bench, so a
-//! mistake would have to be made twice to stay unseen. Quoted lines are the papers'.
+//! the later changes "Why was the byte dropped?", "Locks put right for repeated permalocks" and "The
+//! tag keeps its own CRC word", written from these papers alone. It shares no code and no definition
+//! with the proved bench, so a mistake would have to be made twice to stay unseen. Quoted lines are
+//! the papers'.
+
+use std::cmp::Ordering;
 
 /// Declares the counted branches: one name for each way through the rules.
 macro_rules! branches {
@@ -25,7 +28,7 @@ branches! {
     IMAGE_SHORTER_THAN_HEADER FORMAT_WRONG TOTAL_NOT_LENGTH TOTAL_ABOVE_2048
     RESERVED_WORDS_WRONG EPC_WORDS_FEW EPC_WORDS_MANY TID_WORDS_FEW TID_WORDS_MANY
     USER_WORDS_MANY RESERVED_OFFSET_LOW EPC_OFFSET_LOW TID_OFFSET_LOW USER_OFFSET_LOW
-    LAST_END_HIGH LOCK_UPPER_BITS STATE_UNKNOWN EPC_LENGTH_HIGH
+    LAST_END_HIGH LOCK_UPPER_BITS STATE_UNKNOWN EPC_LENGTH_HIGH CRC_WORD_WRONG
     // finding
     NOTHING_LEFT NO_HEADER TYPE_RESPONSE TYPE_NOTIFICATION TYPE_UNKNOWN ONLY_HEADER
     TYPE_BUT_NO_PL PL_81 PL_ABOVE_81 FRAME_CUT CHECK_WRONG CHECK_AND_END_WRONG END_WRONG ACCEPTED
@@ -36,15 +39,16 @@ branches! {
     // codes and counts
     CODE_UNKNOWN COUNTED_ERROR COUNTED_GOOD
     // inventory
-    INVENTORY_PL INVENTORY_STATE INVENTORY_GOOD CRC_BIT_1 CRC_BIT_0
+    INVENTORY_PL INVENTORY_STATE INVENTORY_GOOD
     // Read
     READ_PL READ_BANK READ_COUNT_0 READ_COUNT_33 READ_STATE READ_PASSWORD READ_RANGE
     READ_KILL_LOCKED READ_ACCESS_LOCKED READ_RESERVED READ_EPC READ_TID READ_USER
     // Write
     WRITE_PL_BELOW_9 WRITE_PL_NOT_COUNT WRITE_BANK WRITE_COUNT_0 WRITE_COUNT_33 WRITE_STATE
     WRITE_PASSWORD WRITE_RANGE WRITE_KILL_LOCKED WRITE_ACCESS_LOCKED WRITE_EPC_LOCKED
-    WRITE_TID_LOCKED WRITE_USER_LOCKED WRITE_NEW_LENGTH_HIGH WRITE_NEW_LENGTH_FITS WRITE_NO_PC
-    WRITE_RESERVED WRITE_EPC WRITE_TID WRITE_USER
+    WRITE_TID_LOCKED WRITE_USER_LOCKED WRITE_CRC_WORD WRITE_NEW_LENGTH_HIGH WRITE_LENGTH_SHORTER
+    WRITE_LENGTH_SAME WRITE_LENGTH_LONGER WRITE_EPC_WITHIN WRITE_EPC_TO_ITS_END
+    WRITE_EPC_OVER_ITS_END WRITE_BEHIND_EPC WRITE_RESERVED WRITE_TID WRITE_USER
     // Lock
     LOCK_PL LOCK_TOP_BITS LOCK_STATE LOCK_PASSWORD LOCK_NOT_SECURED LOCK_NO_USER
     LOCK_USER_THERE LOCK_USER_NOT_MASKED LOCK_NO_PERMALOCK LOCK_PERMALOCK_LIFTED
@@ -285,6 +289,11 @@ fn is_good(image: &[u8]) -> bool {
     if !are_words_good(image) || !are_offsets_good(image) {
         return false;
     }
+    is_tag_good(image)
+}
+
+/// The rules on what stands in the layout.
+fn is_tag_good(image: &[u8]) -> bool {
     // "lock bits; the upper six are 0"
     if image[20] > 3 {
         hit!(LOCK_UPPER_BITS);
@@ -297,6 +306,11 @@ fn is_good(image: &[u8]) -> bool {
     // "L + 2 is at most the EPC word count"
     if epc_length(image) + 2 > words_of(image, EPC) {
         hit!(EPC_LENGTH_HIGH);
+        return false;
+    }
+    // "that word of a good image equals the CRC-16 of the stored PC and its L EPC words"
+    if crc_word(image) != crc16(pc_and_epc(image)).to_be_bytes() {
+        hit!(CRC_WORD_WRONG);
         return false;
     }
     true
@@ -500,6 +514,7 @@ impl Answer {
     }
 }
 
+/// The stored PC and its L EPC words.
 fn pc_and_epc(image: &[u8]) -> &[u8] {
     let start = offset_of(image, EPC) + 2;
     &image[start..start + 2 + 2 * epc_length(image)]
@@ -546,29 +561,50 @@ fn inventory(image: &[u8], parameters: &[u8]) -> Answer {
         hit!(INVENTORY_STATE);
         return plain_error(0x15);
     }
-    // "Else type 02, code 22: RSSI, PC, EPC, CRC-16 of PC and EPC"
+    // "Else type 02, code 22: RSSI, PC, EPC, CRC-16 of PC and EPC"; "inventory sends the stored word"
     hit!(INVENTORY_GOOD);
-    let pc_and_epc = pc_and_epc(image);
     Answer::new(2, 0x22)
         .byte(image[23])
-        .bytes(pc_and_epc)
-        .bytes(&crc16(pc_and_epc).to_be_bytes())
+        .bytes(pc_and_epc(image))
+        .bytes(&crc_word(image))
 }
 
-/// "Gen2: polynomial 1021 hex, preset FFFF, complemented, high byte first"
-fn crc16(bytes: &[u8]) -> u16 {
+/// "A Gen2 tag holds its CRC-16 in EPC word 0"
+fn crc_word(image: &[u8]) -> [u8; 2] {
+    let start = offset_of(image, EPC);
+    [image[start], image[start + 1]]
+}
+
+/// What eight steps make of a register that holds this byte above and 0 below.
+const fn crc_steps(byte: u8) -> u16 {
+    let mut crc = (byte as u16) << 8;
+    let mut step = 0;
+    while step < 8 {
+        let carry = crc & 0x8000 != 0;
+        crc <<= 1;
+        if carry {
+            crc ^= 0x1021;
+        }
+        step += 1;
+    }
+    crc
+}
+
+static CRC_STEPS: [u16; 256] = {
+    let mut table = [0; 256];
+    let mut byte = 0;
+    while byte < 256 {
+        table[byte] = crc_steps(byte as u8);
+        byte += 1;
+    }
+    table
+};
+
+/// "Gen2: polynomial 1021 hex, preset FFFF, complemented, high byte first", a byte at a time.
+pub fn crc16(bytes: &[u8]) -> u16 {
     let mut crc: u16 = 0xFFFF;
     for b in bytes {
-        crc ^= u16::from(*b) << 8;
-        for _ in 0..8 {
-            if crc & 0x8000 != 0 {
-                hit!(CRC_BIT_1);
-                crc = (crc << 1) ^ 0x1021;
-            } else {
-                hit!(CRC_BIT_0);
-                crc <<= 1;
-            }
-        }
+        crc = (crc << 8) ^ CRC_STEPS[usize::from((crc >> 8) as u8 ^ b)];
     }
     !crc
 }
@@ -768,27 +804,75 @@ fn write(image: &mut [u8], parameters: &[u8]) -> Answer {
         return tag_error(0xB4, image);
     }
     let data = &parameters[9..];
-    if bank == EPC && pointer <= 1 && pointer + count > 1 {
-        let new_length = usize::from(data[2 * (1 - pointer)] >> 3);
-        if new_length + 2 > words_of(image, EPC) {
-            hit!(WRITE_NEW_LENGTH_HIGH);
-            return tag_error(0xB3, image);
-        }
-        hit!(WRITE_NEW_LENGTH_FITS);
-    } else {
-        hit!(WRITE_NO_PC);
+    if bank == EPC {
+        return write_epc(image, pointer, data);
     }
     match bank {
         RESERVED => hit!(WRITE_RESERVED),
-        EPC => hit!(WRITE_EPC),
         TID => hit!(WRITE_TID),
         _ => hit!(WRITE_USER),
     }
+    store(image, bank, pointer, data)
+}
+
+/// "Else all words are written; tail, 00."
+fn store(image: &mut [u8], bank: usize, pointer: usize, data: &[u8]) -> Answer {
     // the tail is "as they stood before the command", so the answer comes before the store
     let answer = done(0x49, image);
     let start = offset_of(image, bank) + 2 * pointer;
-    image[start..start + 2 * count].copy_from_slice(data);
+    image[start..start + data.len()].copy_from_slice(data);
     answer
+}
+
+/// A Write to the EPC bank that passed range and locks. The CRC word is no longer ordinary memory.
+fn write_epc(image: &mut [u8], pointer: usize, data: &[u8]) -> Answer {
+    // "A Write that names EPC word 0 answers B4 just after the lock check and before the length
+    // check."
+    if pointer == 0 {
+        hit!(WRITE_CRC_WORD);
+        return tag_error(0xB4, image);
+    }
+    if pointer == 1 {
+        // "Bank 1, word 1 written, new L + 2 above the EPC words: B3."
+        if !does_length_fit(image, usize::from(data[0] >> 3)) {
+            hit!(WRITE_NEW_LENGTH_HIGH);
+            return tag_error(0xB3, image);
+        }
+    } else {
+        count_place(2 + epc_length(image), pointer, pointer + data.len() / 2);
+    }
+    let answer = store(image, EPC, pointer, data);
+    // "equals the CRC-16 of the stored PC and its L EPC words, after every call too": L is the new
+    // one, and what was written behind these words does not count
+    let crc = crc16(pc_and_epc(image)).to_be_bytes();
+    let start = offset_of(image, EPC);
+    image[start..start + 2].copy_from_slice(&crc);
+    answer
+}
+
+fn does_length_fit(image: &[u8], new_length: usize) -> bool {
+    if new_length + 2 > words_of(image, EPC) {
+        return false;
+    }
+    match new_length.cmp(&epc_length(image)) {
+        Ordering::Less => hit!(WRITE_LENGTH_SHORTER),
+        Ordering::Equal => hit!(WRITE_LENGTH_SAME),
+        Ordering::Greater => hit!(WRITE_LENGTH_LONGER),
+    }
+    true
+}
+
+/// Counts where the words from `from` to `to` lie to the end of the EPC.
+fn count_place(end: usize, from: usize, to: usize) {
+    if from >= end {
+        hit!(WRITE_BEHIND_EPC);
+        return;
+    }
+    match to.cmp(&end) {
+        Ordering::Less => hit!(WRITE_EPC_WITHIN),
+        Ordering::Equal => hit!(WRITE_EPC_TO_ITS_END),
+        Ordering::Greater => hit!(WRITE_EPC_OVER_ITS_END),
+    }
 }
 
 fn may_write(image: &[u8], bank: usize, pointer: usize, count: usize, secured: bool) -> bool {

@@ -6,7 +6,9 @@
 //! are the times, the ratio proved to model, and how time grows as the input doubles, each the
 //! median over the rounds. The model's branch counters are compiled out here.
 
-use poldrisk::generator::{double, frame, offset_place, sample_image, set_double, Random};
+use poldrisk::generator::{
+    double, frame, offset_place, sample_image, set_crc_word, set_double, Random,
+};
 use poldrisk::model::Bench;
 use poldrisk::{call_packed, packed, CURSOR, DROPPED, STATE_LENGTH};
 use std::hint::black_box;
@@ -25,6 +27,22 @@ struct Workload {
     drops: [bool; 5],
 }
 
+impl Workload {
+    fn new(
+        name: &'static str,
+        image: Vec<u8>,
+        input: fn(usize) -> Vec<u8>,
+        drops: [bool; 5],
+    ) -> Workload {
+        Workload {
+            name,
+            image,
+            input,
+            drops,
+        }
+    }
+}
+
 /// The largest tag: 33 EPC words with L at 31, 32 TID words and 512 User words.
 fn large_image() -> Vec<u8> {
     let mut image = vec![0; 24];
@@ -40,6 +58,7 @@ fn large_image() -> Vec<u8> {
     set_double(&mut image, 2, total);
     let pc = double(&image, offset_place(1)) + 2;
     image[pc] = 31 << 3;
+    set_crc_word(&mut image);
     image
 }
 
@@ -86,18 +105,17 @@ fn aimed(password: [u8; 4], bank: u8, pointer: u16, count: u16, data: &[u8]) -> 
 /// All five commands on the sample tag. The Kill has a wrong password, so that the tag answers to
 /// the end.
 fn mix(size: usize) -> Vec<u8> {
-    let mut round = without_crc();
+    let mut round = aimed_commands();
     round.insert(0, frame(0x22, &[]));
     repeated(&round, size)
 }
 
-/// The same without the inventory: how well a compiler treats the one loop of the CRC is not to hide
-/// the rest.
-fn mix_without_crc(size: usize) -> Vec<u8> {
-    repeated(&without_crc(), size)
+/// The same without the inventory.
+fn mix_without_inventory(size: usize) -> Vec<u8> {
+    repeated(&aimed_commands(), size)
 }
 
-fn without_crc() -> Vec<Vec<u8>> {
+fn aimed_commands() -> Vec<Vec<u8>> {
     let lock = [&RIGHT[..], &[0x02, 0x00, 0x80]].concat();
     vec![
         frame(0x39, &aimed(RIGHT, 3, 0, 2, &[])),
@@ -131,6 +149,16 @@ fn longest(size: usize) -> Vec<u8> {
         frame(0x49, &aimed(open, 3, 480, 32, &[0x5A; 64])),
     ];
     repeated(&round, size)
+}
+
+/// Writes of the PC and 31 EPC words, with L at 31 and at 30.
+fn epc_writes(size: usize) -> Vec<u8> {
+    let write = |length: u8| {
+        let mut data = [0x5A; 64];
+        data[0] = length << 3;
+        frame(0x49, &aimed([0; 4], 1, 1, 32, &data))
+    };
+    repeated(&[write(31), write(30)], size)
 }
 
 fn run_proved(image: &[u8], input: &[u8]) -> (f64, [u64; STATE_LENGTH]) {
@@ -240,36 +268,27 @@ fn main() {
         .nth(1)
         .map_or(101, |a| a.parse().expect("ROUNDS is a number"));
     let workloads = [
-        Workload {
-            name: "noise without BB",
-            image: sample_image(),
-            input: noise,
-            drops: NO_HEADER,
-        },
-        Workload {
-            name: "all five commands",
-            image: sample_image(),
-            input: mix,
-            drops: ACCEPTS,
-        },
-        Workload {
-            name: "all but the inventory, so without CRC",
-            image: sample_image(),
-            input: mix_without_crc,
-            drops: ACCEPTS,
-        },
-        Workload {
-            name: "false headers, each with a whole wrong frame behind it",
-            image: sample_image(),
-            input: false_headers,
-            drops: WRONG_CHECK,
-        },
-        Workload {
-            name: "longest Reads and Writes",
-            image: large_image(),
-            input: longest,
-            drops: ACCEPTS,
-        },
+        Workload::new("noise without BB", sample_image(), noise, NO_HEADER),
+        Workload::new("all five commands", sample_image(), mix, ACCEPTS),
+        Workload::new(
+            "all but the inventory",
+            sample_image(),
+            mix_without_inventory,
+            ACCEPTS,
+        ),
+        Workload::new(
+            "Writes of PC and EPC, each with a new CRC word",
+            large_image(),
+            epc_writes,
+            ACCEPTS,
+        ),
+        Workload::new(
+            "false headers, each with a whole wrong frame behind it",
+            sample_image(),
+            false_headers,
+            WRONG_CHECK,
+        ),
+        Workload::new("longest Reads and Writes", large_image(), longest, ACCEPTS),
     ];
     let mut met = true;
     for workload in &workloads {

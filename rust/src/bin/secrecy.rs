@@ -96,10 +96,11 @@ fn pair(random: &mut Random, dropped: Dropped) -> (Run, Run) {
     match dropped {
         Dropped::KillPasswordZero => runs.0.image[start..start + 4].fill(0),
         Dropped::AccessPasswordZero => runs.0.image[start + 4..start + 8].fill(0),
-        // the PC's low bits and the EPC are ordinary bytes
+        // the PC's low bits and the EPC are free; the CRC word goes with them
         Dropped::DifferElsewhere => {
             let pc = double(&runs.0.image, offset_place(1)) + 3;
             runs.0.image[pc] ^= 1;
+            generator::set_crc_word(&mut runs.0.image);
         }
         _ => {}
     }
