@@ -221,18 +221,19 @@ struct Medians {
     growth_of_model: f64,
 }
 
-/// The times of all rounds, one turn at every size in each.
-fn rounds_of(workload: &Workload, rounds: usize) -> Vec<[(f64, f64); SIZES.len()]> {
+/// The times of one round: a turn at every size.
+type Round = [(f64, f64); SIZES.len()];
+
+fn rounds_of(workload: &Workload, rounds: usize) -> Vec<Round> {
     let inputs = SIZES.map(workload.input);
     (0..rounds)
         .map(|_| std::array::from_fn(|i| turn(workload, &inputs[i])))
         .collect()
 }
 
-fn medians(rounds: &[[(f64, f64); SIZES.len()]], i: usize) -> Medians {
-    let over = |figure: &dyn Fn(&[(f64, f64); SIZES.len()]) -> f64| {
-        median(&mut rounds.iter().map(figure).collect::<Vec<_>>())
-    };
+fn medians(rounds: &[Round], i: usize) -> Medians {
+    let over =
+        |figure: &dyn Fn(&Round) -> f64| median(&mut rounds.iter().map(figure).collect::<Vec<_>>());
     let before = i.saturating_sub(1);
     Medians {
         proved: over(&|r| r[i].0),
