@@ -49,7 +49,7 @@ enum {
     POLDRISK_INCOMPLETE = 2,   /* the frame at the cursor is not complete */
     POLDRISK_BYTE_DROPPED = 3, /* the byte at the cursor was dropped, for the reason at POLDRISK_REASON */
     POLDRISK_PAST_END = 10,    /* the cursor is past the end of the input */
-    POLDRISK_BAD_IMAGE = 11,   /* the image breaks a rule of a good image */
+    POLDRISK_BAD_IMAGE = 11,   /* the image breaks a rule of a good image; its EPC word 0 must be the CRC-16 of PC and EPC */
     POLDRISK_SHORT_OUTPUT = 12, /* the output is shorter than 136 bytes */
     POLDRISK_FULL_TALLY = 13,  /* one of the seven counts is at 4,294,967,295 */
     POLDRISK_BAD_STATE_LENGTH = 20, /* state_length is not 10 */

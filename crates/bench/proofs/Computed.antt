@@ -16,14 +16,14 @@ use Rattle.frame.specs.Bytes.{pick, all, byte, number, double, bytesOf, bytesOf
 use Rattle.frame.specs.Finding.{find}
 use Rattle.frame.specs.Formats.{codeIn, plIn, parametersIn, sumRight, lastRight}
 use Rattle.frame.specs.Frames.{sum, checkOf, checked, frameOf, frameLength, longestCommand, longestAnswer, written}
-use Rattle.tag.specs.Answers.{pcAndEpc, tail, answer, changed, isError}
-use Rattle.tag.specs.Commands.{passwordIn, bankIn, pointerIn, countIn, dataIn, ldIn, aimRight, parseInventory, parseRead, parseWrite, parseLock, parseKill, parse, gone, ifPresent, admitted, outside, inventoryVerdict, readAct, readVerdict, lengthBroken, writeAct, writeVerdict, lockAct, lockVerdict, killAct, killVerdict, verdict, actOf}
-use Rattle.image.specs.Image.{bankAt, view, rssi, bankOf, wordAt, endOf, epcLength, killPassword, accessPassword, goodHeader, goodBanks, goodTag, good}
+use Rattle.tag.specs.Answers.{tail, answer, crcKept, changed, isError}
+use Rattle.tag.specs.Commands.{passwordIn, bankIn, pointerIn, countIn, dataIn, ldIn, aimRight, parseInventory, parseRead, parseWrite, parseLock, parseKill, parse, gone, ifPresent, admitted, outside, inventoryVerdict, readAct, readVerdict, namesCrc, lengthBroken, writeAct, writeVerdict, lockAct, lockVerdict, killAct, killVerdict, verdict, actOf}
+use Rattle.image.specs.Image.{bankAt, view, rssi, bankOf, wordAt, endOf, epcLength, killPassword, accessPassword, crcWord, withCrc, goodHeader, goodBanks, goodTag, goodCrc, good, pcAndEpc}
 use Rattle.tag.specs.Locks.{pairs, bitsOf, permalocked, standingOf, standing, isSecured, isWrong, killStandingOf, killStanding, allows, touches, mayTouchPasswords, mayRead, mayWrite, refusesPair, newBit, maskedPair, newPair, newPairs, refusesLock}
 
 -- all that the machine is made of, opened at once
 unfoldable pub everything : Unit {0}
-unfolding limit anyAtLimit full raised withDropped numberOf unchanged dropped written counted answered actIn jobFor decide carriedOut inputOf restOf step run leaving shifted added bitStep bitSteps entered byteStep crc tagCrc pick all byte number double bytesOf part codeIn plIn parametersIn sumRight lastRight find sum checkOf checked frameOf frameLength longestCommand longestAnswer pcAndEpc tail answer changed isError passwordIn bankIn pointerIn countIn dataIn ldIn aimRight parseInventory parseRead parseWrite parseLock parseKill parse gone ifPresent admitted outside inventoryVerdict readAct readVerdict lengthBroken writeAct writeVerdict lockAct lockVerdict killAct killVerdict verdict actOf bankAt view rssi bankOf wordAt endOf epcLength killPassword accessPassword goodHeader goodBanks goodTag good pairs bitsOf permalocked standingOf standing isSecured isWrong killStandingOf killStanding allows touches mayTouchPasswords mayRead mayWrite refusesPair newBit maskedPair newPair newPairs refusesLock passwordsAt acceptedBy accepted carries carriesNone noneCarries
+unfolding limit anyAtLimit full raised withDropped numberOf unchanged dropped written counted answered actIn jobFor decide carriedOut inputOf restOf step run leaving shifted added bitStep bitSteps entered byteStep crc tagCrc pick all byte number double bytesOf part codeIn plIn parametersIn sumRight lastRight find sum checkOf checked frameOf frameLength longestCommand longestAnswer pcAndEpc tail answer crcKept changed isError passwordIn bankIn pointerIn countIn dataIn ldIn aimRight parseInventory parseRead parseWrite parseLock parseKill parse gone ifPresent admitted outside inventoryVerdict readAct readVerdict namesCrc lengthBroken writeAct writeVerdict lockAct lockVerdict killAct killVerdict verdict actOf bankAt view rssi bankOf wordAt endOf epcLength killPassword accessPassword crcWord withCrc goodHeader goodBanks goodTag goodCrc good pairs bitsOf permalocked standingOf standing isSecured isWrong killStandingOf killStanding allows touches mayTouchPasswords mayRead mayWrite refusesPair newBit maskedPair newPair newPairs refusesLock passwordsAt acceptedBy accepted carries carriesNone noneCarries
 everything = tt
 
 pub starred : Starred

@@ -1,21 +1,22 @@
 -- What each command stores: all of it or nothing, on its own bytes alone.
-use Prim.Native.Nat.{ℕ, _+_, _*_, _≤_}
+use Prim.Native.Nat.{ℕ, _+_, _*_, _≤_, _<_}
 use lib.Dec.{eqb}
 use lib.ListN.{length}
 use lib.Seq.{sets}
 use mathlib.Core.Bool.{true, false, not, true≢false}
 use mathlib.Core.List.{List, [], _∷_}
-use mathlib.Core.Logic.{_≢_, ⊎-elim}
+use mathlib.Core.Logic.{_⊎_, _≢_, inl, inr, ⊎-elim}
 use mathlib.Core.Path.{_≡_, refl, ap, sym, _∙_}
 use borrow.Author.Tests.{eqb-true, not-true}
 use native.Mathlib.Omega.{arith}
 use Rattle.bench.proofs.Steps.{step-cases}
-use Rattle.bench.specs.Claims.{Overwritten, Effect, NamedWords, WriteEffect, LockEffect, KillEffect, NoOtherEffect, GapsStay, isGood, isError}
+use Rattle.bench.proofs.Writing.{written}
+use Rattle.bench.specs.Claims.{Overwritten, Effect, Written, NamedWords, WriteEffect, LockEffect, KillEffect, NoOtherEffect, GapsStay, isGood, isError}
 use Rattle.bench.specs.Machine.{State, Call, Step, numberOf, unchanged, dropped, answered, actIn, restOf, step}
 use Rattle.frame.proofs.Numbers.{length-bytes-of}
 use Rattle.frame.proofs.Stores.{take-sets, drop-sets-behind, part-sets, byte-sets-before, byte-sets-behind}
 use Rattle.frame.proofs.Tests.{and-left}
-use Rattle.frame.specs.Bytes.{byte, bytesOf, twoBytes}
+use Rattle.frame.specs.Bytes.{pick, byte, number, bytesOf, twoBytes}
 use Rattle.frame.specs.Formats.{codeIn, parametersIn}
 use Rattle.tag.proofs.AnswerBytes.{error-code}
 use Rattle.tag.proofs.Cases.{placeOf, newBits, act-cases}
@@ -24,7 +25,7 @@ use Rattle.tag.proofs.NamedWords.{Inside, inside, data-length}
 use Rattle.tag.specs.Answers.{changed}
 use Rattle.tag.specs.Answers as Answers
 use Rattle.tag.specs.Commands.{bankIn, countIn, dataIn}
-use Rattle.image.specs.Image.{good, view, wordAt, endOf}
+use Rattle.image.specs.Image.{good, view, bankAt, bankOf, wordAt, endOf}
 use Rattle.tag.specs.declared.commands.Act.{Act}
 
 overwritten : (at : ℕ) (bytes old : List ℕ) → at + length bytes ≤ length old → Overwritten at bytes old (sets old at bytes)
@@ -55,16 +56,16 @@ unfolding isError
 not-error x n h = n (eqb-true _ _ (and-left (eqb (numberOf (x .outcome)) 0) (eqb (byte (x .next .output) 2) 0xFF) h))
 
 -- from what an act does to what the step does
-record ActEffect (image p : List ℕ) (at : ℕ) (bytes : List ℕ) (Also : Type 0) (act : Act) : Type 0 where
+record ActEffect (image p : List ℕ) (Stored : List ℕ → Type 0) (Also : Type 0) (act : Act) : Type 0 where
   error-keeps : Answers.isError act ≡ true → changed image p act ≡ image
-  good-stores : Answers.isError act ≡ false → Overwritten at bytes image (changed image p act)
+  good-stores : Answers.isError act ≡ false → Stored (changed image p act)
   good-also : Answers.isError act ≡ false → Also
 
-module _ (c : Call) (s : State) (at : ℕ) (bytes : List ℕ) (Also : Type 0) where
+module _ (c : Call) (s : State) (Stored : List ℕ → Type 0) (Also : Type 0) where
   StepEffect : Step → Type 0
-  StepEffect x = Effect s x at bytes × (isGood x ≡ true → Also)
+  StepEffect x = Effect s x Stored × (isGood x ≡ true → Also)
 
-  from-answered : (rest : List ℕ) (pl : ℕ) → ActEffect (s .image) (parametersIn rest) at bytes Also (actIn s rest)
+  from-answered : (rest : List ℕ) (pl : ℕ) → ActEffect (s .image) (parametersIn rest) Stored Also (actIn s rest)
       → StepEffect (answered s rest pl (actIn s rest))
   unfolding StepEffect answered
   from-answered rest pl e =
@@ -76,7 +77,7 @@ module _ (c : Call) (s : State) (at : ℕ) (bytes : List ℕ) (Also : Type 0) wh
         λ h. e .good-also (calm h),
       )
 
-  from-act : (good (s .image) ≡ true → ActEffect (s .image) (parametersIn (restOf c s)) at bytes Also (actIn s (restOf c s))) → StepEffect (step c s)
+  from-act : (good (s .image) ≡ true → ActEffect (s .image) (parametersIn (restOf c s)) Stored Also (actIn s (restOf c s))) → StepEffect (step c s)
   unfolding StepEffect unchanged dropped numberOf
   from-act e =
       step-cases c s StepEffect
@@ -92,12 +93,12 @@ module _ (c : Call) (s : State) (at : ℕ) (bytes : List ℕ) (Also : Type 0) wh
 
 -- ---- the acts
 
-module _ (image p : List ℕ) (at : ℕ) (bytes : List ℕ) (Also : Type 0) where
-  keeps : (act : Act) → Answers.isError act ≡ true → changed image p act ≡ image → ActEffect image p at bytes Also act
+module _ (image p : List ℕ) (Stored : List ℕ → Type 0) (Also : Type 0) where
+  keeps : (act : Act) → Answers.isError act ≡ true → changed image p act ≡ image → ActEffect image p Stored Also act
   keeps act h k =
       record { error-keeps = λ e. k; good-stores = λ e. absurd (true≢false (sym h ∙ e)); good-also = λ e. absurd (true≢false (sym h ∙ e)) }
 
-  stores : (act : Act) → Answers.isError act ≡ false → Overwritten at bytes image (changed image p act) → Also → ActEffect image p at bytes Also act
+  stores : (act : Act) → Answers.isError act ≡ false → Stored (changed image p act) → Also → ActEffect image p Stored Also act
   stores act h o w = record { error-keeps = λ e. absurd (true≢false (sym e ∙ h)); good-stores = λ e. o; good-also = λ e. w }
 
 -- where the code is one, no case of another code can be
@@ -105,22 +106,21 @@ other : {C : Type 0} (code m n : ℕ) → code ≡ m → code ≡ n → m ≢ n 
 other code m n e f d = absurd (d (sym e ∙ f))
 
 pub write-effect : WriteEffect
-unfolding StepEffect actIn changed Answers.isError
+unfolding StepEffect actIn changed view bankAt Answers.isError
 write-effect c s code =
     let image : List ℕ = s .image in
     let p : List ℕ = parametersIn (restOf c s) in
-    from-act c s (placeOf image p) (dataIn p) (NamedWords image p) λ h.
-    act-cases (ActEffect image p (placeOf image p) (dataIn p) (NamedWords image p))
-    (λ e. keeps image p _ _ _ _ refl refl)
-    (λ e. keeps image p _ _ _ _ refl refl)
+    let Stored : List ℕ → Type 0 = λ new. Written image p new (number image 10) in
+    from-act c s Stored (NamedWords image p) λ h.
+    act-cases (ActEffect image p Stored (NamedWords image p))
+    (λ e. keeps image p _ _ _ refl refl)
+    (λ e. keeps image p _ _ _ refl refl)
     image p (codeIn (restOf c s))
     (λ e. other _ 0x49 0x22 code e (omega arith))
     (λ e reads. other _ 0x49 0x39 code e (omega arith))
     (λ e writes.
-    let at : Inside image p = inside image p (good-facts image h) (writes .aim) in
-    let sized : length (dataIn p) ≡ 2 * countIn p = data-length image p writes in
-    stores image p _ _ _ _ refl (overwritten (placeOf image p) (dataIn p) image (omega (arith, at .to, sized)))
-    record { bank-known = writes .aim .bank-known; in-the-bank = writes .aim .inside; all-of-them = sized })
+    stores image p _ _ _ refl (written image p h writes)
+    record { bank-known = writes .aim .bank-known; in-the-bank = writes .aim .inside; all-of-them = data-length image p writes })
     (λ e secured. other _ 0x49 0x82 code e (omega arith))
     (λ e equal. other _ 0x49 0x65 code e (omega arith))
 
@@ -129,17 +129,18 @@ unfolding StepEffect actIn changed Answers.isError
 lock-effect c s code =
     let image : List ℕ = s .image in
     let p : List ℕ = parametersIn (restOf c s) in
-    from-act c s 20 (twoBytes (newBits image p)) Unit
+    let Stored : List ℕ → Type 0 = Overwritten 20 (twoBytes (newBits image p)) image in
+    from-act c s Stored Unit
     (λ h.
-    act-cases (ActEffect image p 20 (twoBytes (newBits image p)) Unit)
-    (λ e. keeps image p _ _ _ _ refl refl)
-    (λ e. keeps image p _ _ _ _ refl refl)
+    act-cases (ActEffect image p Stored Unit)
+    (λ e. keeps image p _ _ _ refl refl)
+    (λ e. keeps image p _ _ _ refl refl)
     image p (codeIn (restOf c s))
     (λ e. other _ 0x82 0x22 code e (omega arith))
     (λ e reads. other _ 0x82 0x39 code e (omega arith))
     (λ e writes. other _ 0x82 0x49 code e (omega arith))
     (λ e locks.
-    stores image p _ _ _ _ refl
+    stores image p _ _ _ refl
     (overwritten 20 (twoBytes (newBits image p)) image (omega (arith, header-there image h, length-bytes-of 2 (newBits image p))))
     tt)
     (λ e equal. other _ 0x82 0x65 code e (omega arith)))
@@ -150,17 +151,18 @@ unfolding StepEffect actIn changed bytesOf Answers.isError
 kill-effect c s code =
     let image : List ℕ = s .image in
     let p : List ℕ = parametersIn (restOf c s) in
-    from-act c s 22 (1 ∷ []) Unit
+    let Stored : List ℕ → Type 0 = Overwritten 22 (1 ∷ []) image in
+    from-act c s Stored Unit
     (λ h.
-    act-cases (ActEffect image p 22 (1 ∷ []) Unit)
-    (λ e. keeps image p _ _ _ _ refl refl)
-    (λ e. keeps image p _ _ _ _ refl refl)
+    act-cases (ActEffect image p Stored Unit)
+    (λ e. keeps image p _ _ _ refl refl)
+    (λ e. keeps image p _ _ _ refl refl)
     image p (codeIn (restOf c s))
     (λ e. other _ 0x65 0x22 code e (omega arith))
     (λ e reads. other _ 0x65 0x39 code e (omega arith))
     (λ e writes. other _ 0x65 0x49 code e (omega arith))
     (λ e secured. other _ 0x65 0x82 code e (omega arith))
-    (λ e equal. stores image p _ _ _ _ refl (overwritten 22 (1 ∷ []) image (omega (arith, header-there image h))) tt))
+    (λ e equal. stores image p _ _ _ refl (overwritten 22 (1 ∷ []) image (omega (arith, header-there image h))) tt))
     .0
 
 -- what is not answered leaves the image
@@ -185,7 +187,7 @@ no-other-effect c s not-write not-lock not-kill =
     (λ e equal. absurd (not-kill e))
 
 pub gaps-stay : GapsStay
-unfolding actIn changed bytesOf wordAt endOf
+unfolding actIn changed bytesOf wordAt endOf view bankAt bankOf pick
 gaps-stay c s i far gap =
     let image : List ℕ = s .image in
     let p : List ℕ = parametersIn (restOf c s) in
@@ -194,8 +196,12 @@ gaps-stay c s i far gap =
     (λ e. refl)
     (λ e reads. refl)
     (λ e writes.
-    ⊎-elim (λ before. byte-sets-before image (placeOf image p) (dataIn p) i (omega arith))
-    (λ behind. byte-sets-behind image (placeOf image p) (dataIn p) i (omega (arith, data-length image p writes, writes .aim .inside)))
+    let epc : (i < number image 10) ⊎ (number image 10 + 2 ≤ i) =
+    ⊎-elim (λ before. inl before) (λ behind. inr (omega (arith, good-facts image h .epc-least))) (gap 1 (omega arith))
+    in
+    written image p h writes .all-else-stays i
+    (⊎-elim (λ before. inl (omega arith)) (λ behind. inr (omega (arith, data-length image p writes, writes .aim .inside)))
     (gap (bankIn p) (writes .aim .bank-known)))
+    epc)
     (λ e secured. byte-sets-behind image 20 (twoBytes (newBits image p)) i (omega (arith, length-bytes-of 2 (newBits image p))))
     (λ e equal. byte-sets-behind image 22 (1 ∷ []) i (omega arith))

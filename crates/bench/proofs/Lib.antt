@@ -11,3 +11,4 @@ pub mod Quiet
 pub mod Secret
 pub mod Steps
 pub mod Twins
+pub mod Writing

@@ -2,27 +2,29 @@
 use Prim.Native.Nat.{ℕ, _%_}
 use borrow.Author.Tests.{eq-eqb}
 use lib.Dec.{eqb}
+use lib.Seq.{sets}
 use mathlib.Core.Bool.{true}
 use mathlib.Core.List.{List, [], _∷_}
-use mathlib.Core.Path.{_≡_, refl, sym, subst, _∙_}
+use mathlib.Core.Path.{_≡_, refl, ap, sym, subst, _∙_}
 use native.Mathlib.Omega.{arith}
 use Rattle.bench.proofs.Effects.{image-after}
 use Rattle.bench.specs.Claims.{Permalocks, PermalockRule, PermalocksStay}
 use Rattle.bench.specs.Machine.{State, Call, actIn, restOf, step, after}
-use Rattle.frame.proofs.Picks.{pick-true}
+use Rattle.frame.proofs.Picks.{pick-true, by-test}
 use Rattle.frame.proofs.Stores.{number-sets-before}
 use Rattle.frame.specs.Bytes.{number, bytesOf, twoBytes}
 use Rattle.frame.specs.Formats.{codeIn, parametersIn}
-use Rattle.image.proofs.GoodImages.{good-facts, header-there}
-use Rattle.image.specs.Image.{good, view}
-use Rattle.tag.proofs.Cases.{placeOf, newBits, act-cases}
+use Rattle.image.proofs.GoodImages.{Good, good-facts, header-there}
+use Rattle.image.specs.Image.{good, view, bankAt, crcWord, withCrc}
+use Rattle.tag.proofs.Cases.{Writes, placeOf, newBits, act-cases}
 use Rattle.tag.proofs.LockPairs.{bits-small, pairs-of-bits}
 use Rattle.tag.proofs.NamedWords.{Inside, inside}
 use Rattle.tag.proofs.StaysGood.{stored-locks, new-locks-paired}
-use Rattle.tag.specs.Answers.{changed}
-use Rattle.tag.specs.Commands.{dataIn, actOf}
+use Rattle.tag.specs.Answers.{crcKept, changed}
+use Rattle.tag.specs.Commands.{bankIn, dataIn, actOf}
 use Rattle.tag.specs.Locks.{pairs, permalocked, newPair, newPairs}
 use Rattle.tag.specs.declared.commands.Act.{Act}
+use Rattle.tag.specs.declared.commands.Act.the-variants.{Store}
 use Rattle.tag.specs.declared.locks.Pairs.{Pairs}
 
 stays : (mask action old : ℕ) → old % 2 ≡ 1 → newPair mask action old ≡ old
@@ -53,6 +55,18 @@ both old mid new first second =
       user = then _ _ _ (first .user) (second .user);
     }
 
+-- a Write, and the CRC word that it keeps, are behind the lock bits
+written-locks : (image p : List ℕ) → good image ≡ true → Writes image p → number (changed image p (Store (placeOf image p))) 20 ≡ number image 20
+unfolding changed crcKept withCrc view bankAt
+written-locks image p h w =
+    let g : Good (view image) = good-facts image h in
+    let at : Inside image p = inside image p g (w .aim) in
+    let new : List ℕ = sets image (placeOf image p) (dataIn p) in
+    let named : number new 20 ≡ number image 20 = number-sets-before image (placeOf image p) (dataIn p) 20 (omega (arith, at .from)) in
+    by-test (λ (l : List ℕ). number l 20 ≡ number image 20) (eqb (bankIn p) 1)
+    (λ epc. number-sets-before new (number image 10) (twoBytes (crcWord new)) 20 (omega (arith, g .reserved-place, g .epc-place)) ∙ named)
+    (λ other. named)
+
 -- one command: only a Lock touches the lock bits
 by-act : (image p : List ℕ) (code : ℕ) → good image ≡ true
     → Permalocks (pairs (number image 20)) (pairs (number (changed image p (actOf image code p)) 20))
@@ -63,8 +77,7 @@ by-act image p code h =
     (λ e. same _ _ refl)
     (λ e reads. same _ _ refl)
     (λ e writes.
-    let at : Inside image p = inside image p (good-facts image h) (writes .aim) in
-    same _ _ (rw (number-sets-before image (placeOf image p) (dataIn p) 20 (omega (arith, at .from)))))
+    same _ _ (ap pairs (written-locks image p h writes)))
     (λ e locks.
     rw (stored-locks image (newBits image p) (header-there image h) (bits-small _ (new-locks-paired image p)), pairs-of-bits _ (new-locks-paired image p))
     (new-ones _ _ _))

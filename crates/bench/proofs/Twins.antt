@@ -4,13 +4,14 @@ use Prim.Native.Nat.{ℕ, _+_, _-_, _*_, _≤_, _<_}
 use lib.ListN.{length, take, drop, getD}
 use lib.Seq.{getD-take, getD-drop, drop-drop}
 use mathlib.Core.List.{List, _∷_}
-use mathlib.Core.Path.{_≡_, ap, ap₂, sym, _∙_}
+use mathlib.Core.Path.{_≡_, refl, ap, ap₂, sym, _∙_}
 use native.Mathlib.Omega.{arith}
 use Rattle.bench.specs.Secrecy.{EqualElsewhere, passwordsAt}
+use Rattle.crc.specs.Crc.{tagCrc}
 use Rattle.frame.specs.Bytes.{byte, number, part}
 use Rattle.image.proofs.GoodImages.{Good}
-use Rattle.tag.specs.Answers.{pcAndEpc, tail}
-use Rattle.image.specs.Image.{view, bankAt, rssi, wordAt, epcLength}
+use Rattle.tag.specs.Answers.{tail}
+use Rattle.image.specs.Image.{view, bankAt, rssi, wordAt, epcLength, pcAndEpc, crcWord}
 use Rattle.image.specs.declared.header.View.{View}
 
 module _ (at : ℕ) (x y : List ℕ) (e : EqualElsewhere at x y) where
@@ -44,6 +45,15 @@ module _ (at : ℕ) (x y : List ℕ) (e : EqualElsewhere at x y) where
       ∙ ap (λ (l : List ℕ). take n l)
       (sym (drop-drop (i - (at + 8)) (at + 8) x) ∙ ap (λ (l : List ℕ). drop (i - (at + 8)) l) (e .behind) ∙ drop-drop (i - (at + 8)) (at + 8) y)
       ∙ ap (λ (j : ℕ). take n (drop j y)) k
+
+  -- the CRC word is worked of bytes behind the passwords
+  pub same-crc : 24 ≤ at → at + 8 ≤ number x 10 → crcWord x ≡ crcWord y
+  unfolding crcWord pcAndEpc wordAt view bankAt
+  same-crc far behind =
+      let epc : number x 10 ≡ number y 10 = number-before 10 (omega arith) in
+      let pc : number x (number x 10 + 2) ≡ number y (number x 10 + 2) = number-behind (number x 10 + 2) (omega arith) in
+      ap tagCrc
+      (part-behind (number x 10 + 2 * 1) (2 + 2 * epcLength (number x (number x 10 + 2))) (omega arith) ∙ rw (pc, epc) refl)
 
   module _ (place : passwordsAt x ≡ at) (gx : Good (view x)) (gy : Good (view y)) where
     header-far : 24 ≤ at
@@ -87,6 +97,11 @@ module _ (at : ℕ) (x y : List ℕ) (e : EqualElsewhere at x y) where
     same-epc =
         part-behind (wordAt (view x .epc) 1) (2 + 2 * epcLength (view x .pc)) (omega (arith, gx .epc-place, place))
         ∙ ap (λ (v : View). part y (wordAt (v .epc) 1) (2 + 2 * epcLength (v .pc))) same-view
+
+    pub same-word : part x (view x .epc .offset) 2 ≡ part y (view y .epc .offset) 2
+    unfolding passwordsAt
+    same-word =
+        part-behind (view x .epc .offset) 2 (omega (arith, gx .epc-place, place)) ∙ ap (λ (v : View). part y (v .epc .offset) 2) same-view
 
     pub same-tail : tail x ≡ tail y
     unfolding tail

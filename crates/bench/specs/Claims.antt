@@ -1,12 +1,13 @@
 -- The claims page: all that is promised of the machine, each as a named statement with the papers' words beside it. Who trusts
 -- the prover reads this page and the definitions that it cites. Each statement is proved in proofs/Claimed.antt.
-use Prim.Native.Nat.{ℕ, _+_, _*_, _/_, _%_, _≤_, _<_}
+use Prim.Native.Nat.{ℕ, _+_, _*_, _/_, _%_, _^_, _≤_, _<_}
 use mathlib.Core.Bool.{Bool, true, false, not, _&&_, _||_}
 use mathlib.Core.List.{List, [], _∷_, map}
 use mathlib.Core.Logic.{_⊎_, _≢_}
 use mathlib.Core.Path.{_≡_}
 use lib.Dec.{eqb, leb, ltb}
 use lib.ListN.{length, take, drop, replicate}
+use Rattle.crc.specs.Crc.{tagCrc}
 use Rattle.reader.specs.Readers.{freshReader}
 use Rattle.bench.specs.Machine.{State, stateOf, Call, call, Step, numberOf, reasonOf, inputOf, restOf, actIn, step, work, run, after}
 use Rattle.bench.specs.Sample.{cases, given, expected}
@@ -197,10 +198,28 @@ pub record Overwritten (at : ℕ) (bytes old new : List ℕ) : Type 0 where
   pub stored : part new at (length bytes) ≡ bytes
   pub behind-stays : drop (at + length bytes) new ≡ drop (at + length bytes) old
 
--- "a write lands whole or not at all": with an error answer nothing is stored, with a good one all of it
-pub record Effect (s : State) (x : Step) (at : ℕ) (bytes : List ℕ) : Type 0 where
+-- "a write lands whole or not at all": with an error answer nothing is stored, with a good one all of it, which is what `Stored` says of the new image
+pub record Effect (s : State) (x : Step) (Stored : List ℕ → Type 0) : Type 0 where
   pub error-stores-nothing : isError x ≡ true → x .next .image ≡ s .image
-  pub good-stores-all : isGood x ≡ true → Overwritten at bytes (s .image) (x .next .image)
+  pub good-stores-all : isGood x ≡ true → Stored (x .next .image)
+
+-- where the named words start
+abbrev pub placeNamed : List ℕ → List ℕ → ℕ
+placeNamed image p = wordAt (bankOf (view image) (bankIn p)) (pointerIn p)
+
+-- P4: "Demand 2's 'only on the named words' reads from then on: the named words, and EPC word 0 kept by this rule." EPC word 0 stands at `word`, and L counts
+-- the words behind the PC
+pub record Written (image p new : List ℕ) (word : ℕ) : Type 0 where
+  pub named-words : part new (placeNamed image p) (length (dataIn p)) ≡ dataIn p
+  pub crc-word : number new word ≡ tagCrc (part new (word + 2) (2 + 2 * (number new (word + 2) / 2 ^ 11)))
+  pub all-else-stays :
+      (i : ℕ)
+      → (i < placeNamed image p) ⊎ (placeNamed image p + length (dataIn p) ≤ i)
+      → (i < word) ⊎ (word + 2 ≤ i)
+      → byte new i ≡ byte image i
+  -- a Write behind the L words, or to another bank, leaves EPC word 0 as it is
+  pub crc-stays : (bankIn p ≢ 1) ⊎ (number image (word + 2) / 2 ^ 11 + 1 < pointerIn p) → number new word ≡ number image word
+  pub same-length : length new ≡ length image
 
 -- "only on the named words": they are in the named bank, and each has its two data bytes
 pub record NamedWords (image p : List ℕ) : Type 0 where
@@ -212,7 +231,7 @@ abbrev pub WriteEffect : Type 0
 WriteEffect =
     (c : Call) (s : State)
     → codeOf c s ≡ 0x49
-    → Effect s (step c s) (wordAt (bankOf (view (s .image)) (bankIn (parametersOf c s))) (pointerIn (parametersOf c s))) (dataIn (parametersOf c s))
+    → Effect s (step c s) (λ new. Written (s .image) (parametersOf c s) new (number (s .image) 10))
     × (isGood (step c s) ≡ true → NamedWords (s .image) (parametersOf c s))
 
 -- "all pairs are stored": bytes 20 and 21; LD bits 19 to 10 are the mask, 9 to 0 the action
@@ -220,11 +239,11 @@ abbrev pub pairsAfter : State → List ℕ → Pairs
 pairsAfter s p = newPairs (pairs (ldIn p / 1024)) (pairs (ldIn p % 1024)) (pairs (view (s .image) .locks))
 
 abbrev pub LockEffect : Type 0
-LockEffect = (c : Call) (s : State) → codeOf c s ≡ 0x82 → Effect s (step c s) 20 (twoBytes (bitsOf (pairsAfter s (parametersOf c s))))
+LockEffect = (c : Call) (s : State) → codeOf c s ≡ 0x82 → Effect s (step c s) (Overwritten 20 (twoBytes (bitsOf (pairsAfter s (parametersOf c s)))) (s .image))
 
 -- "state becomes 1": byte 22
 abbrev pub KillEffect : Type 0
-KillEffect = (c : Call) (s : State) → codeOf c s ≡ 0x65 → Effect s (step c s) 22 (1 ∷ [])
+KillEffect = (c : Call) (s : State) → codeOf c s ≡ 0x65 → Effect s (step c s) (Overwritten 22 (1 ∷ []) (s .image))
 
 abbrev pub NoOtherEffect : Type 0
 NoOtherEffect = (c : Call) (s : State) → codeOf c s ≢ 0x49 → codeOf c s ≢ 0x82 → codeOf c s ≢ 0x65 → step c s .next .image ≡ s .image

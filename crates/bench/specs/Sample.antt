@@ -13,12 +13,12 @@ use Rattle.bench.specs.declared.outcome.Outcome.the-variants.{Answered, 
 use Rattle.reader.specs.declared.tally.Tally.{Tally}
 
 -- "Total 86; offsets 24, 32, 48, 54; words 4, 8, 3, 16; locks 0; state 0; RSSI C9 (-55). Both passwords 0000FFFF. EPC bank: 0000 3400
--- 3075 1FEB 705C 5904 E3D5 0D70. TID all 0. User 1234 5678, then zeros."
+-- 3075 1FEB 705C 5904 E3D5 0D70. TID all 0. User 1234 5678, then zeros." P4: "The sample tag's EPC bank now starts with 3A76"
 abbrev pub sample : List ℕ
 sample =
     bytes 24 0x0001_0056_0004_0018_0008_0020_0003_0030_0010_0036_0000_00_C9
     ++ bytes 8 0x0000FFFF_0000FFFF
-    ++ bytes 16 0x0000_3400_3075_1FEB_705C_5904_E3D5_0D70
+    ++ bytes 16 0x3A76_3400_3075_1FEB_705C_5904_E3D5_0D70
     ++ replicate 6 0
     ++ bytes 4 0x1234_5678
     ++ replicate 28 0
@@ -83,8 +83,8 @@ cases =
     ∷ case sample (bytes 20 0xBB_00_49_00_0D_00_00_FF_FF_03_00_00_00_02_12_34_56_78_6D_7E) Answered (bytes 23 0xBB_01_49_00_10_0E_34_00_30_75_1F_EB_70_5C_59_04_E3_D5_0D_70_00_A9_7E) sample 20 oneGood
     -- "Write of 3C00 to EPC word 1 (L 7, 8 words): B3, check 12."
     ∷ case sample (bytes 18 0xBB_00_49_00_0B_00_00_FF_FF_01_00_01_00_01_3C_00_91_7E) Answered (bytes 23 0xBB_01_FF_00_10_B3_0E_34_00_30_75_1F_EB_70_5C_59_04_E3_D5_0D_70_12_7E) sample 18 oneError
-    -- "Of 3000: good."
-    ∷ case sample (bytes 18 0xBB_00_49_00_0B_00_00_FF_FF_01_00_01_00_01_30_00_85_7E) Answered (bytes 23 0xBB_01_49_00_10_0E_34_00_30_75_1F_EB_70_5C_59_04_E3_D5_0D_70_00_A9_7E) (sets sample 34 (bytes 2 0x30_00)) 18 oneGood
+    -- "Of 3000: good.", P4: the CRC-16 of 3000 and the six words that its L counts is C7D3
+    ∷ case sample (bytes 18 0xBB_00_49_00_0B_00_00_FF_FF_01_00_01_00_01_30_00_85_7E) Answered (bytes 23 0xBB_01_49_00_10_0E_34_00_30_75_1F_EB_70_5C_59_04_E3_D5_0D_70_00_A9_7E) (sets sample 32 (bytes 4 0xC7_D3_30_00)) 18 oneGood
     -- "Lock ..: lock bits become 0080, check E2."
     ∷ case sample (bytes 14 0xBB_00_82_00_07_00_00_FF_FF_02_00_80_09_7E) Answered (bytes 23 0xBB_01_82_00_10_0E_34_00_30_75_1F_EB_70_5C_59_04_E3_D5_0D_70_00_E2_7E) (sets sample 20 (bytes 2 0x00_80)) 14 oneGood
     -- "Kill with 0000FFFF: check C5"

@@ -1,21 +1,19 @@
 -- The parameters of each answer, put piece behind piece, and the frame closed round them.
 use Prim.Native.Nat.{ℕ, _+_, _-_, _≤_}
-use lib.ListN.{length, set, length-append}
+use lib.ListN.{length, set, length-append, length-set}
 use lib.Seq.{sets}
 use mathlib.Core.List.{List, [], _∷_, _++_}
 use mathlib.Core.Path.{_≡_, refl, ap, _∙_}
 use native.Mathlib.Omega.{arith}
-use Rattle.crc.specs.Crc.{tagCrc}
 use Rattle.frame.proofs.Copies.{length-part-inside, copied-is}
-use Rattle.frame.proofs.Numbers.{length-bytes-of}
 use Rattle.frame.proofs.Stores.{length-put, sets-join, set-join}
-use Rattle.frame.specs.Bytes.{byte, part, twoBytes}
+use Rattle.frame.specs.Bytes.{byte, number, part}
 use Rattle.frame.specs.Closing.{Closing}
 use Rattle.frame.specs.Copying.{copied}
 use Rattle.frame.specs.Frames.{frameOf}
 use Rattle.frame.specs.Putting.{Put}
-use Rattle.tag.specs.Answers.{pcAndEpc, tail, answer}
-use Rattle.image.specs.Image.{rssi}
+use Rattle.tag.specs.Answers.{tail, answer}
+use Rattle.image.specs.Image.{view, bankAt, rssi, pcAndEpc}
 use Rattle.tag.specs.declared.commands.Act.the-variants.{TagError, Notify, Give}
 use Rattle.execution.proofs.Rounds.{closed-round}
 use Rattle.execution.specs.Execution.{FrameWritten}
@@ -65,17 +63,25 @@ module _ (output : List ℕ) (room : 136 ≤ length output) where
 
     pub notify-closed : (strength : ℕ) → strength ≡ byte image 23 → (stored : List ℕ) (next : ℕ)
         → Put (pcAndEpc image) 6 (set output 5 strength) stored next → next ≤ 70
-        → (crc : ℕ) → crc ≡ tagCrc (pcAndEpc image) → (numbered : List ℕ) → numbered ≡ sets stored next (twoBytes crc)
-        → (after : List ℕ) (result : ℕ) → Closing 0x02 0x22 (next + 2 - 5) numbered after result → FrameWritten (answer image Notify) output after result
-    unfolding answer rssi
-    notify-closed strength s stored next put short crc worked numbered two =
-        let sum : List ℕ = twoBytes (tagCrc (pcAndEpc image)) in
-        let piece : List ℕ = pcAndEpc image ++ sum in
+        → (word : ℕ) → word ≡ number image 10 → word + 2 ≤ length image
+        → (copies : List ℕ) → copies ≡ copied image word 2 stored next
+        → (after : List ℕ) (result : ℕ) → Closing 0x02 0x22 (next + 2 - 5) copies after result → FrameWritten (answer image Notify) output after result
+    unfolding answer rssi view bankAt
+    notify-closed strength s stored next put short word place there copies c =
+        let crc : List ℕ = part image (number image 10) 2 in
+        let two : length crc ≡ 2 = length-part-inside image (number image 10) 2 (omega arith) in
+        let piece : List ℕ = pcAndEpc image ++ crc in
         let whole : length piece ≡ length (pcAndEpc image) + 2 =
-        length-append (pcAndEpc image) sum ∙ ap (λ (n : ℕ). length (pcAndEpc image) + n) (length-bytes-of 2 (tagCrc (pcAndEpc image)))
+        length-append (pcAndEpc image) crc ∙ ap (λ (n : ℕ). length (pcAndEpc image) + n) two
         in
-        let joined : sets stored next sum ≡ sets output 5 (byte image 23 ∷ piece) =
-        rw (put .output-is, put .next-is, s) (sets-join (set output 5 (byte image 23)) 6 (pcAndEpc image) sum)
+        let same : length stored ≡ length output =
+        length-put (pcAndEpc image) 6 (set output 5 strength) stored next put ∙ length-set output 5 strength
         in
-        closed-round 0x02 0x22 (byte image 23 ∷ piece) output (omega (arith, put .next-is)) room numbered
-        (two ∙ ap (λ (n : ℕ). sets stored next (twoBytes n)) worked ∙ joined) (next + 2 - 5) (omega (arith, put .next-is))
+        let copied-all : copied image word 2 stored next ≡ sets stored next crc =
+        copied-is image word 2 stored next there (omega arith) ∙ ap (λ (n : ℕ). sets stored next (part image n 2)) place
+        in
+        let joined : sets stored next crc ≡ sets output 5 (byte image 23 ∷ piece) =
+        rw (put .output-is, put .next-is, s) (sets-join (set output 5 (byte image 23)) 6 (pcAndEpc image) crc)
+        in
+        closed-round 0x02 0x22 (byte image 23 ∷ piece) output (omega (arith, put .next-is)) room copies
+        (c ∙ copied-all ∙ joined) (next + 2 - 5) (omega (arith, put .next-is))

@@ -11,8 +11,8 @@ use Rattle.frame.proofs.Copies.{reaches-there, length-part-inside, copied-is}
 use Rattle.frame.specs.Bytes.{part}
 use Rattle.frame.specs.Copying.{copied}
 use Rattle.frame.specs.Putting.{Put}
-use Rattle.tag.specs.Answers.{pcAndEpc, tail}
-use Rattle.image.specs.Image.{view, wordAt, epcLength}
+use Rattle.tag.specs.Answers.{tail}
+use Rattle.image.specs.Image.{view, wordAt, epcLength, pcAndEpc}
 use Rattle.image.specs.Spans.{EpcSpan}
 use Rattle.image.specs.declared.header.Span.{Span}
 use Rattle.image.specs.declared.header.View.{View}
@@ -29,6 +29,10 @@ module _ (image : List ℕ) (h : hasEpc image ≡ true) where
   there : epcFrom (view image) + epcBytes (view image) ≤ length image
   unfolding hasEpc wordAt epcLength
   there = reaches-there image (epcFrom (view image)) (epcBytes (view image)) h
+
+  -- EPC word 0 stands before the PC
+  pub word-there : view image .epc .offset + 2 ≤ length image
+  word-there = omega (arith, there)
 
   epc-is : part image (epcFrom (view image)) (epcBytes (view image)) ≡ pcAndEpc image
   unfolding pcAndEpc epcLength wordAt

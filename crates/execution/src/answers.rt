@@ -1,11 +1,10 @@
 // The answer frame of each act (document 01, "The commands"). Its parameters are put where a frame has them, and then the frame is
 // closed round them.
 use crate::execute::Executed;
-use crate::putting::crc_of_epc;
-use crate::putting::put_bytes;
 use crate::putting::put_pc_and_epc;
 use crate::putting::put_tail;
 use frame::bytes::byte_at;
+use frame::bytes::number_at;
 use frame::bytes::reaches;
 use frame::closing::close;
 use frame::copying::copy;
@@ -40,14 +39,14 @@ pub(crate) fn tag_error(image: &[u8], output: &mut [u8], e: u8) -> usize
     close(output, 0x01, 0xff, next - PARAMETERS)
 }
 
-// RSSI, PC, EPC and the CRC-16 of these two.
+// RSSI, PC, EPC and the CRC word as it is stored.
 pub(crate) fn notify(image: &[u8], output: &mut [u8]) -> usize
     requires { ⌜ (hasEpc (now image) ≡ true) × (136 ≤ length (now output)) ⌝ }
     ensures { λ r. ⌜ FrameWritten (answer (now (image .entry)) Notify) (now (output .entry)) (now (output .exit)) r ⌝ }
 {
     output[PARAMETERS] = byte_at(image, 23);
     let next = put_pc_and_epc(image, output, PARAMETERS + 1);
-    put_bytes(output, next, 2, crc_of_epc(image) as usize);
+    copy(image, number_at(image, 10), 2, output, next);
     close(output, 0x02, 0x22, next + 2 - PARAMETERS)
 }
 

@@ -6,10 +6,10 @@ ghost use mathlib.Core.Bool.{true};
 ghost use Prim.Native.Nat.{_+_, _≤_};
 ghost use lib.ListN.{length};
 ghost use lib.Seq.{sets};
-ghost use Rattle.crc.specs.Crc.{tagCrc};
 ghost use Rattle.frame.specs.Bytes.{bytesOf};
 ghost use Rattle.frame.specs.Putting.{Put};
-ghost use Rattle.tag.specs.Answers.{pcAndEpc, tail};
+ghost use Rattle.image.specs.Image.{pcAndEpc};
+ghost use Rattle.tag.specs.Answers.{tail};
 ghost use Rattle.execution.specs.Reach.{hasEpc};
 
 // The last `count` bytes of a number, high first.
@@ -44,15 +44,4 @@ pub(crate) fn put_tail(image: &[u8], output: &mut [u8], at: usize) -> usize
     let place = epc_span(image);
     output[at] = place.count as u8;
     put_pc_and_epc(image, output, at + 1)
-}
-
-// The CRC-16 of the PC and the EPC.
-pub(crate) fn crc_of_epc(image: &[u8]) -> u16
-    requires { ⌜ hasEpc (now image) ≡ true ⌝ }
-    ensures { λ r. ⌜ r ≡ tagCrc (pcAndEpc (now (image .entry))) ⌝ }
-{
-    let place = epc_span(image);
-    let from = place.from;
-    let to = from + place.count;
-    crc::shifts::tag_crc(&image[from..to])
 }

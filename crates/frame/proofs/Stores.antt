@@ -1,5 +1,5 @@
 -- Laws of a run of stores, `sets l i vs`: what stands before it and behind it stays, and in it stand the new bytes.
-use Prim.Native.Nat.{ℕ, zero, suc, _+_, _≤_, _<_}
+use Prim.Native.Nat.{ℕ, zero, suc, _+_, _-_, _≤_, _<_}
 use lib.ListN.{length, take, drop, set, length-set}
 use lib.Seq.{sets, length-sets, sets-eq, take-set-le, drop-set-lt, drop-set-add, getD-set-same, getD-set-other, take-at, drop-at, length-take-le}
 use mathlib.Core.List.{List, [], _∷_, _++_, append-assoc}
@@ -32,6 +32,18 @@ part-sets l i vs h =
     ap (λ (t : List ℕ). take (length vs) (drop i t)) (sets-eq vs l i h ∙ append-assoc (take i l) vs (drop (i + length vs) l))
     ∙ ap (λ (t : List ℕ). take (length vs) t) (drop-at (take i l) (vs ++ drop (i + length vs) l) i (length-take-le i l (omega arith)))
     ∙ take-at vs (drop (i + length vs) l) (length vs) refl
+
+pub part-sets-before : (l : List ℕ) (i : ℕ) (vs : List ℕ) (j n : ℕ) → j + n ≤ i → part (sets l i vs) j n ≡ part l j n
+unfolding part
+part-sets-before l i vs j n h =
+    let k : j + (i - j) ≡ i = omega arith in
+    ap (λ (m : ℕ). take n (drop j (sets l m vs))) (sym k)
+    ∙ ap (λ (t : List ℕ). take n t) (drop-sets j l (i - j) vs)
+    ∙ take-sets n (drop j l) (i - j) vs (omega arith)
+
+pub part-sets-behind : (l : List ℕ) (i : ℕ) (vs : List ℕ) (j n : ℕ) → i + length vs ≤ j → part (sets l i vs) j n ≡ part l j n
+unfolding part
+part-sets-behind l i vs j n h = ap (take n) (drop-sets-behind j l i vs h)
 
 -- ---- pieces one behind the other
 

@@ -1,13 +1,15 @@
 -- A good image, by tests and by facts.
 use Prim.Native.Nat.{ℕ, _+_, _*_, _≤_, _<_}
 use borrow.Author.Tests.{eqb-true, leb-true, ltb-true, eq-eqb, le-leb, lt-ltb}
+use lib.Dec.{eqb}
 use lib.ListN.{length}
-use mathlib.Core.Bool.{true, _&&_}
+use mathlib.Core.Bool.{Bool, true, _&&_}
 use mathlib.Core.List.{List}
 use mathlib.Core.Path.{_≡_}
 use native.Mathlib.Omega.{arith}
 use Rattle.frame.proofs.Tests.{and-left, and-right, and-both, all-at, all-cons, all-nil}
-use Rattle.image.specs.Image.{good, goodHeader, goodBanks, goodTag, wordAt, endOf, epcLength, view}
+use Rattle.frame.specs.Bytes.{number}
+use Rattle.image.specs.Image.{good, goodHeader, goodBanks, goodTag, goodCrc, wordAt, endOf, epcLength, crcWord, view}
 use Rattle.image.specs.declared.header.View.{View}
 
 -- a good image as facts, one for each line of the table in document 01 and each sentence under it
@@ -87,18 +89,35 @@ tag-holds v g =
     all-cons _ _ (lt-ltb _ _ (g .upper-six))
     (all-cons _ _ (le-leb _ _ (g .state-known)) (all-cons _ _ (le-leb _ _ (g .epc-fits)) all-nil))
 
-pub good-facts : (image : List ℕ) → good image ≡ true → Good (view image)
-unfolding good
-good-facts image h =
-    let v : View = view image in
-    let rest : (goodBanks v && goodTag v) ≡ true = and-right (goodHeader v) (goodBanks v && goodTag v) h in
-    facts v (and-left (goodHeader v) (goodBanks v && goodTag v) h) (and-left (goodBanks v) (goodTag v) rest) (and-right (goodBanks v) (goodTag v) rest)
+-- EPC word 0 holds the CRC word
+abbrev pub CrcKept : List ℕ → Type 0
+CrcKept image = number image (view image .epc .offset) ≡ crcWord image
 
-pub good-holds : (image : List ℕ) → Good (view image) → good image ≡ true
-unfolding good
-good-holds image g =
+both-facts : (image : List ℕ) → good image ≡ true → Good (view image) × CrcKept image
+unfolding good goodCrc
+both-facts image h =
     let v : View = view image in
-    and-both (goodHeader v) (goodBanks v && goodTag v) (header-holds v g) (and-both (goodBanks v) (goodTag v) (banks-hold v g) (tag-holds v g))
+    let last : Bool = eqb (number image (v .epc .offset)) (crcWord image) in
+    let behind-header : (goodBanks v && (goodTag v && last)) ≡ true = and-right (goodHeader v) (goodBanks v && (goodTag v && last)) h in
+    let behind-banks : (goodTag v && last) ≡ true = and-right (goodBanks v) (goodTag v && last) behind-header in (
+      facts v (and-left (goodHeader v) (goodBanks v && (goodTag v && last)) h) (and-left (goodBanks v) (goodTag v && last) behind-header)
+          (and-left (goodTag v) last behind-banks),
+      eqb-true _ _ (and-right (goodTag v) last behind-banks),
+    )
+
+pub good-facts : (image : List ℕ) → good image ≡ true → Good (view image)
+good-facts image h = both-facts image h .0
+
+pub crc-kept : (image : List ℕ) → good image ≡ true → CrcKept image
+crc-kept image h = both-facts image h .1
+
+pub good-holds : (image : List ℕ) → Good (view image) → CrcKept image → good image ≡ true
+unfolding good goodCrc
+good-holds image g kept =
+    let v : View = view image in
+    let last : Bool = eqb (number image (v .epc .offset)) (crcWord image) in
+    and-both (goodHeader v) (goodBanks v && (goodTag v && last)) (header-holds v g)
+    (and-both (goodBanks v) (goodTag v && last) (banks-hold v g) (and-both (goodTag v) last (tag-holds v g) (eq-eqb _ _ kept)))
 
 pub header-there : (image : List ℕ) → good image ≡ true → 24 ≤ length image
 unfolding view

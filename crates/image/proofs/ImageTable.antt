@@ -1,14 +1,14 @@
 -- A good image is exactly one that keeps the table of document 01.
 use mathlib.Core.List.{List}
 use native.Mathlib.Omega.{arith}
-use Rattle.image.proofs.GoodImages.{Good, good-facts, good-holds}
+use Rattle.image.proofs.GoodImages.{Good, CrcKept, good-facts, crc-kept, good-holds}
 use Rattle.image.specs.Claims.{ImageRules, GoodImages}
-use Rattle.image.specs.Image.{bankAt, view, epcLength}
+use Rattle.image.specs.Image.{bankAt, view, wordAt, epcLength, pcAndEpc, crcWord}
 use Prim.Native.Nat.{ℕ}
 
-rules-kept : (image : List ℕ) → Good (view image) → ImageRules image
-unfolding view bankAt epcLength
-rules-kept image g =
+rules-kept : (image : List ℕ) → Good (view image) → CrcKept image → ImageRules image
+unfolding view bankAt epcLength crcWord pcAndEpc wordAt
+rules-kept image g kept =
     record {
       format-must-be-1 = g .format-1;
       total-is-the-lent-length = g .total-lent;
@@ -28,6 +28,7 @@ rules-kept image g =
       user-behind-tid = g .user-place;
       last-end-within = g .last-end;
       length-within = g .epc-fits;
+      crc-in-word-0 = kept;
     }
 
 rules-suffice : (image : List ℕ) → ImageRules image → Good (view image)
@@ -54,5 +55,10 @@ rules-suffice image g =
       epc-fits = g .length-within;
     }
 
+kept-again : (image : List ℕ) → ImageRules image → CrcKept image
+unfolding view bankAt epcLength crcWord pcAndEpc wordAt
+kept-again image g = g .crc-in-word-0
+
 pub good-images : GoodImages
-good-images image = (λ h. rules-kept image (good-facts image h), λ g. good-holds image (rules-suffice image g))
+good-images image =
+    (λ h. rules-kept image (good-facts image h) (crc-kept image h), λ g. good-holds image (rules-suffice image g) (kept-again image g))

@@ -1,6 +1,9 @@
 pub mod Banks
 pub mod Changes
 pub mod Claimed
+pub mod CrcStores
+pub mod CrcWords
 pub mod GoodImages
+pub mod Heads
 pub mod ImageTable
 pub mod Places

@@ -5,7 +5,8 @@ use mathlib.Core.Bool.{true}
 use mathlib.Core.List.{List}
 use mathlib.Core.Path.{_≡_}
 use lib.ListN.{length}
-use Rattle.frame.specs.Bytes.{byte, number}
+use Rattle.crc.specs.Crc.{tagCrc}
+use Rattle.frame.specs.Bytes.{byte, number, part}
 use Rattle.image.specs.Image.{good}
 
 -- The table of the header and the sentences under it: "all two-byte numbers high byte first".
@@ -33,6 +34,8 @@ pub record ImageRules (image : List ℕ) : Type 0 where
   pub last-end-within : number image 18 + 2 * number image 16 ≤ number image 2
   -- "EPC word 1 is the PC; its top five bits L count the EPC words that follow it; L + 2 is at most the EPC word count."
   pub length-within : number image (number image 10 + 2) / 2 ^ 11 + 2 ≤ number image 8
+  -- P4: "that word of a good image equals the CRC-16 of the stored PC and its L EPC words", "in EPC word 0"
+  pub crc-in-word-0 : number image (number image 10) ≡ tagCrc (part image (number image 10 + 2) (2 + 2 * (number image (number image 10 + 2) / 2 ^ 11)))
 
 -- "An image that breaks any of this is bad.", and no other is
 abbrev pub GoodImages : Type 0

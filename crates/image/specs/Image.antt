@@ -4,7 +4,9 @@ use mathlib.Core.Bool.{Bool, _&&_}
 use mathlib.Core.List.{List, [], _∷_}
 use lib.Dec.{eqb, leb, ltb}
 use lib.ListN.{length}
-use Rattle.frame.specs.Bytes.{pick, all, byte, number, double}
+use lib.Seq.{sets}
+use Rattle.crc.specs.Crc.{tagCrc}
+use Rattle.frame.specs.Bytes.{pick, all, byte, number, double, part, twoBytes}
 use Rattle.image.specs.declared.header.Bank.{Bank}
 use Rattle.image.specs.declared.header.View.{View}
 
@@ -47,6 +49,18 @@ endOf b = wordAt b (b .words)
 unfoldable pub epcLength : ℕ → ℕ
 epcLength pc = pc / 2048
 
+-- the PC and the EPC: EPC word 1 and the L words that follow it
+unfoldable pub pcAndEpc : List ℕ → List ℕ
+pcAndEpc image = part image (wordAt (view image .epc) 1) (2 + 2 * epcLength (view image .pc))
+
+-- P4: "the CRC-16 of the stored PC and its L EPC words"
+unfoldable pub crcWord : List ℕ → ℕ
+crcWord image = tagCrc (pcAndEpc image)
+
+-- the image with its CRC word stored at a place
+unfoldable pub withCrc : ℕ → List ℕ → List ℕ
+withCrc at image = sets image at (twoBytes (crcWord image))
+
 -- "Reserved words 0-1 are the kill password, 2-3 the access password."
 unfoldable pub killPassword : List ℕ → ℕ
 killPassword image = double image (view image .reserved .offset)
@@ -80,6 +94,10 @@ goodBanks v =
 unfoldable pub goodTag : View → Bool
 goodTag v = all (ltb (v .locks) 1024 ∷ leb (v .state) 2 ∷ leb (epcLength (v .pc) + 2) (v .epc .words) ∷ [])
 
+-- P4: "A Gen2 tag holds its CRC-16 in EPC word 0 ..; that word of a good image equals the CRC-16"
+unfoldable pub goodCrc : List ℕ → Bool
+goodCrc image = eqb (number image (view image .epc .offset)) (crcWord image)
+
 -- "An image that breaks any of this is bad."
 unfoldable pub good : List ℕ → Bool
-good image = goodHeader (view image) && (goodBanks (view image) && goodTag (view image))
+good image = goodHeader (view image) && (goodBanks (view image) && (goodTag (view image) && goodCrc image))

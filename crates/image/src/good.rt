@@ -1,11 +1,16 @@
 // Whether an image is good (document 01, "The image"): one test after another, and the first that fails settles it.
+use crate::crc_word::crc_of_epc;
 use crate::header::Bank;
 use crate::header::View;
-use crate::header::whole_view;
+use crate::header::head_of;
+use crate::header::number_in;
 ghost use mathlib.Core.Path.{_≡_};
+ghost use Prim.Native.Nat.{_+_, _<_};
 ghost use lib.Dec.{leb};
+ghost use lib.ListN.{length};
 ghost use Rattle.image.specs.Bounds.{SmallBank, Small};
-ghost use Rattle.image.specs.Image.{endOf, goodHeader, goodBanks, goodTag, good};
+ghost use Rattle.image.specs.Spans.{headOf};
+ghost use Rattle.image.specs.Image.{endOf, view, goodHeader, goodBanks, goodTag, goodCrc, good};
 
 // Whether a bank's end is at most `limit`. Both fields come from two bytes each, so the sum does not wrap.
 fn ends_by(b: Bank, limit: usize) -> bool
@@ -77,8 +82,10 @@ fn is_good_banks(v: View) -> bool
     ends_by(user, v.total)
 }
 
-fn is_good_tag(v: View) -> bool
-    ensures { λ r. ⌜ r ≡ goodTag v ⌝ }
+// The PC is read here, where the tests of the banks have shown that it is there.
+fn is_good_tag(image: &[u8], v: View) -> bool
+    requires { ⌜ (v ≡ headOf (view (now image))) × (v .epc .offset + 3 < length (now image)) ⌝ }
+    ensures { λ r. ⌜ r ≡ goodTag (view (now (image .entry))) ⌝ }
 {
     let epc = v.epc;
     if 1024 <= v.locks {
@@ -87,10 +94,17 @@ fn is_good_tag(v: View) -> bool
     if 2 < v.state {
         return false;
     }
-    if epc.words < v.pc / 2048 + 2 {
+    if epc.words < number_in(image, epc.offset + 2) / 2048 + 2 {
         return false;
     }
     true
+}
+
+fn is_good_crc(image: &[u8], epc: Bank) -> bool
+    requires { ⌜ (epc .offset ≡ view (now image) .epc .offset) × (epc .offset + 1 < length (now image)) ⌝ }
+    ensures { λ r. ⌜ r ≡ goodCrc (now (image .entry)) ⌝ }
+{
+    number_in(image, epc.offset) == crc_of_epc(image) as usize
 }
 
 pub fn is_good(image: &[u8]) -> bool
@@ -99,12 +113,15 @@ pub fn is_good(image: &[u8]) -> bool
     if image.len() < 24 {
         return false;
     }
-    let v = whole_view(image);
+    let v = head_of(image);
     if !is_good_header(v) {
         return false;
     }
     if !is_good_banks(v) {
         return false;
     }
-    is_good_tag(v)
+    if !is_good_tag(image, v) {
+        return false;
+    }
+    is_good_crc(image, v.epc)
 }

@@ -5,7 +5,7 @@ ghost use Prim.Native.Nat.{_+_, _<_, _≤_};
 ghost use lib.ListN.{length};
 ghost use Rattle.frame.specs.Bytes.{number};
 ghost use Rattle.image.specs.Bounds.{SmallBank, Small};
-ghost use Rattle.image.specs.Spans.{EpcSpan};
+ghost use Rattle.image.specs.Spans.{EpcSpan, headOf};
 ghost use Rattle.image.specs.Image.{bankAt, view, bankOf};
 
 // A bank's place in the image: how many words it has, and where its first byte stands.
@@ -40,7 +40,7 @@ fn bank_at(image: &[u8], i: usize) -> Bank
 }
 
 // A number of which both bytes are known to be there: no test.
-fn number_in(image: &[u8], i: usize) -> usize
+pub(crate) fn number_in(image: &[u8], i: usize) -> usize
     requires { ⌜ i + 1 < length (now image) ⌝ }
     ensures { λ r. ⌜ r ≡ number (now (image .entry)) i ⌝ }
     ensures { λ r. ⌜ r < 65536 ⌝ }
@@ -59,28 +59,47 @@ fn bank_in(image: &[u8], i: usize) -> Bank
     }
 }
 
-// The view of an image that has its whole header, which one test has shown.
-pub(crate) fn whole_view(image: &[u8]) -> View
+// The view of an image that has its whole header, which one test has shown; but for the PC, for which the header does not tell that it is there.
+pub(crate) fn head_of(image: &[u8]) -> View
     requires { ⌜ 24 ≤ length (now image) ⌝ }
-    ensures { λ r. ⌜ r ≡ view (now (image .entry)) ⌝ }
+    ensures { λ r. ⌜ r ≡ headOf (view (now (image .entry))) ⌝ }
     ensures { λ r. ⌜ Small r ⌝ }
 {
-    let epc = bank_in(image, 8);
-    let pc = bytes::number_at(image, epc.offset + 2);
-    let reserved = bank_in(image, 4);
-    let tid = bank_in(image, 12);
-    let user = bank_in(image, 16);
     View {
         size: image.len(),
         format: number_in(image, 0),
         total: number_in(image, 2),
+        reserved: bank_in(image, 4),
+        epc: bank_in(image, 8),
+        tid: bank_in(image, 12),
+        user: bank_in(image, 16),
+        locks: number_in(image, 20),
+        state: image[22],
+        pc: 0,
+    }
+}
+
+fn whole_view(image: &[u8]) -> View
+    requires { ⌜ 24 ≤ length (now image) ⌝ }
+    ensures { λ r. ⌜ r ≡ view (now (image .entry)) ⌝ }
+    ensures { λ r. ⌜ Small r ⌝ }
+{
+    let v = head_of(image);
+    let reserved = v.reserved;
+    let epc = v.epc;
+    let tid = v.tid;
+    let user = v.user;
+    View {
+        size: v.size,
+        format: v.format,
+        total: v.total,
         reserved,
         epc,
         tid,
         user,
-        locks: number_in(image, 20),
-        state: image[22],
-        pc,
+        locks: v.locks,
+        state: v.state,
+        pc: bytes::number_at(image, epc.offset + 2),
     }
 }
 

@@ -1,6 +1,6 @@
 // The sample tag of document 01, and command lists on it that a line builder would recognise.
 
-// The sample tag: total 86; both passwords 0000FFFF; User 1234 5678, then zeros.
+// The sample tag: total 86; both passwords 0000FFFF; the CRC word is 3A76; User 1234 5678, then zeros.
 pub const SAMPLE: [u8; 86] = [
     0x00,
     0x01,
@@ -34,8 +34,8 @@ pub const SAMPLE: [u8; 86] = [
     0x00,
     0xFF,
     0xFF,
-    0x00,
-    0x00,
+    0x3A,
+    0x76,
     0x34,
     0x00,
     0x30,

@@ -6,16 +6,14 @@ use mathlib.Core.Bool.{true}
 use mathlib.Core.List.{List, [], _∷_, _++_}
 use mathlib.Core.Path.{_≡_}
 use native.Mathlib.Omega.{arith}
-use Rattle.crc.specs.Crc.{tagCrc}
 use Rattle.frame.proofs.FrameBytes.{length-frame, code-frame, length-part}
-use Rattle.frame.proofs.Numbers.{length-bytes-of}
-use Rattle.frame.specs.Bytes.{byte, part, twoBytes}
+use Rattle.frame.specs.Bytes.{byte, part}
 use Rattle.frame.specs.Frames.{frameOf, written}
 use Rattle.tag.proofs.Cases.{placeOf, act-cases}
 use Rattle.image.proofs.GoodImages.{Good, good-facts}
-use Rattle.tag.specs.Answers.{pcAndEpc, tail, answer, isError}
+use Rattle.tag.specs.Answers.{tail, answer, isError}
 use Rattle.tag.specs.Commands.{countIn, actOf}
-use Rattle.image.specs.Image.{good, view, rssi, wordAt, epcLength}
+use Rattle.image.specs.Image.{good, view, rssi, wordAt, epcLength, pcAndEpc}
 use Rattle.tag.specs.declared.commands.Act.{Act}
 use Rattle.tag.specs.declared.commands.Act.the-variants.{Notify, Give}
 
@@ -34,12 +32,12 @@ module _ (image : List ℕ) (g : Good (view image)) where
   notify-most : length (answer image Notify) ≤ 136
   unfolding answer
   notify-most =
-      let crc : List ℕ = twoBytes (tagCrc (pcAndEpc image)) in
+      let crc : List ℕ = part image (view image .epc .offset) 2 in
       omega (
         arith,
         length-frame 0x02 0x22 (rssi image ∷ (pcAndEpc image ++ crc)),
         length-append (pcAndEpc image) crc,
-        length-bytes-of 2 (tagCrc (pcAndEpc image)),
+        length-part image (view image .epc .offset) 2,
         pc-and-epc-most,
       )
 
@@ -78,7 +76,7 @@ error-code image p code output =
     (λ e. rw (code-frame 0x01 0xFF (e ∷ []) output))
     (λ e. rw (code-frame 0x01 0xFF (e ∷ tail image) output))
     image p code
-    (λ n. rw (code-frame 0x02 0x22 (rssi image ∷ (pcAndEpc image ++ twoBytes (tagCrc (pcAndEpc image)))) output))
+    (λ n. rw (code-frame 0x02 0x22 (rssi image ∷ (pcAndEpc image ++ part image (view image .epc .offset) 2)) output))
     (λ n reads. rw (code-frame 0x01 0x39 (tail image ++ part image (placeOf image p) (2 * countIn p)) output))
     (λ n writes. rw (code-frame 0x01 0x49 (tail image ++ (0x00 ∷ [])) output))
     (λ n locks. rw (code-frame 0x01 0x82 (tail image ++ (0x00 ∷ [])) output))

@@ -8,7 +8,7 @@ use mathlib.Core.List.{List}
 use mathlib.Core.Path.{_≡_, refl}
 use Rattle.frame.proofs.Picks.{by-test}
 use Rattle.frame.proofs.Tests.{and-left, and-right}
-use Rattle.tag.specs.Commands.{passwordIn, bankIn, pointerIn, countIn, dataIn, ldIn, aimRight, parseInventory, parseRead, parseWrite, parseLock, parseKill, parse, gone, ifPresent, admitted, outside, inventoryVerdict, readAct, readVerdict, lengthBroken, writeAct, writeVerdict, lockAct, lockVerdict, killAct, killVerdict, verdict, actOf}
+use Rattle.tag.specs.Commands.{passwordIn, bankIn, pointerIn, countIn, dataIn, ldIn, aimRight, parseInventory, parseRead, parseWrite, parseLock, parseKill, parse, gone, ifPresent, admitted, outside, inventoryVerdict, readAct, readVerdict, namesCrc, lengthBroken, writeAct, writeVerdict, lockAct, lockVerdict, killAct, killVerdict, verdict, actOf}
 use Rattle.image.specs.Image.{view, bankOf, wordAt}
 use Rattle.tag.specs.Locks.{pairs, bitsOf, standing, isSecured, isWrong, killStanding, mayRead, mayWrite, newPairs, refusesLock}
 use Rattle.tag.specs.declared.commands.Act.{Act}
@@ -44,6 +44,7 @@ pub record Writes (image p : List ℕ) : Type 0 where
   pub fields : length p ≡ 9 + 2 * countIn p
   pub aim : Aimed (view image) (bankIn p) (pointerIn p) (countIn p)
   pub may : mayWrite (view image) (standing image (passwordIn p)) (bankIn p) (pointerIn p) (countIn p) ≡ true
+  pub not-crc : namesCrc (bankIn p) (pointerIn p) ≡ false
   pub kept : lengthBroken (view image) (bankIn p) (pointerIn p) (countIn p) (dataIn p) ≡ false
 
 pub record Kills (image p : List ℕ) : Type 0 where
@@ -122,15 +123,17 @@ module _ (P : Act → Type 0) (plain : (e : ℕ) → P (PlainError e)) (tagged :
       give inside (not-false _ may)
 
   write-cases : (v : View) (s : Standing) (bank pointer count : ℕ) (words : List ℕ)
-      → (outside v bank pointer count ≡ false → mayWrite v s bank pointer count ≡ true → lengthBroken v bank pointer count words ≡ false
+      → (outside v bank pointer count ≡ false → mayWrite v s bank pointer count ≡ true → namesCrc bank pointer ≡ false
+      → lengthBroken v bank pointer count words ≡ false
       → P (Store (wordAt (bankOf v bank) pointer)))
       → P (writeAct v s bank pointer count words)
   unfolding writeAct
   write-cases v s bank pointer count words store =
       by-test P (outside v bank pointer count) (λ h. tagged 0xB3) λ inside.
       by-test P (not (mayWrite v s bank pointer count)) (λ h. tagged 0xB4) λ may.
+      by-test P (namesCrc bank pointer) (λ h. tagged 0xB4) λ not-crc.
       by-test P (lengthBroken v bank pointer count words) (λ h. tagged 0xB3) λ kept.
-      store inside (not-false _ may) kept
+      store inside (not-false _ may) not-crc kept
 
   lock-cases : (v : View) (s : Standing) (mask action : ℕ)
       → (isSecured s ≡ true → P (Set 0x82 20 2 (bitsOf (newPairs (pairs mask) (pairs action) (pairs (v .locks))))))
@@ -167,8 +170,8 @@ module _ (P : Act → Type 0) (plain : (e : ℕ) → P (PlainError e)) (tagged :
       give h record { fields = fields; aim = aimed v p aim inside; may = may }))
       (λ h fields aim.
       admitted-cases v s 0x10 _
-      (write-cases v s (bankIn p) (pointerIn p) (countIn p) (dataIn p) λ inside may kept.
-      store h record { fields = fields; aim = aimed v p aim inside; may = may; kept = kept }))
+      (write-cases v s (bankIn p) (pointerIn p) (countIn p) (dataIn p) λ inside may not-crc kept.
+      store h record { fields = fields; aim = aimed v p aim inside; may = may; not-crc = not-crc; kept = kept }))
       (λ h fields.
       admitted-cases v s 0x13 _
       (lock-cases v s (ldIn p / 1024) (ldIn p % 1024) λ secured. locks h record { fields = fields; secured = secured }))

@@ -3,6 +3,7 @@ use Prim.Native.Nat.{ℕ, _+_, _*_, _/_, _%_, _≤_}
 use borrow.Author.Tests.{leb-true, ltb-false, ne-eqb, not-false}
 use lib.Dec.{eqb, leb, ltb}
 use lib.ListN.{length, drop}
+use lib.Seq.{sets}
 use mathlib.Core.Bool.{Bool, true, false, not, _&&_}
 use mathlib.Core.List.{List, [], _∷_, _++_}
 use mathlib.Core.Path.{_≡_, refl, ap}
@@ -13,13 +14,13 @@ use Rattle.frame.proofs.Tests.{and-left, not-leb}
 use Rattle.frame.specs.Bytes.{pick, part, bytesOf, byte, number, double}
 use Rattle.frame.specs.Frames.{frameOf, checked, checkOf}
 use Rattle.tag.proofs.RawLocks.{kill-pair, access-pair, epc-pair, tid-pair, user-pair, refused, top-four, some-bit, two-stored}
-use Rattle.tag.proofs.RawTests.{wrong-is, secured-is, words-are, offset-is, unreadable, unwritable, short-too, broken-is}
+use Rattle.tag.proofs.RawTests.{wrong-is, secured-is, words-are, offset-is, unreadable, unwritable, short-too, names-crc, broken-is}
 use Rattle.tag.proofs.Rows.{plain-is, plain-row, tag-row, last-row}
-use Rattle.tag.specs.Answers.{pcAndEpc, tail, answer, changed}
+use Rattle.tag.specs.Answers.{tail, answer, crcKept, changed}
 use Rattle.tag.specs.Claims as Claims
-use Rattle.tag.specs.Claims.{InventoryRows, ReadRows, WriteRows, LockRows, KillRows, OtherCodes, outcome, framed, stored, offsetOf, killStored, accessStored}
+use Rattle.tag.specs.Claims.{InventoryRows, ReadRows, WriteRows, LockRows, KillRows, OtherCodes, outcome, framed, stored, writtenIn, offsetOf, killStored, accessStored}
 use Rattle.tag.specs.Commands.{passwordIn, bankIn, pointerIn, countIn, dataIn, ldIn, aimRight, parseInventory, parseRead, parseWrite, parseLock, parseKill, parse, gone, ifPresent, admitted, outside, inventoryVerdict, readAct, readVerdict, writeAct, writeVerdict, lockAct, lockVerdict, killAct, killVerdict, verdict, actOf}
-use Rattle.image.specs.Image.{bankAt, view, rssi, bankOf, wordAt, epcLength, killPassword, accessPassword}
+use Rattle.image.specs.Image.{bankAt, view, rssi, bankOf, wordAt, epcLength, killPassword, accessPassword, pcAndEpc, crcWord, withCrc}
 use Rattle.tag.specs.Locks.{pairs, bitsOf, standing, killStandingOf, killStanding, newPairs, refusesLock}
 use Rattle.tag.specs.declared.commands.Act.the-variants.{PlainError, TagError, Notify, Give, Store, Set}
 use Rattle.tag.specs.declared.commands.Parsed.{Parsed}
@@ -41,8 +42,7 @@ notified-is : (image p : List ℕ)
     → outcome image p Notify
     ≡ (
       framed 0x02 0x22
-          (byte image 23
-          ∷ (Claims.pcAndEpc image ++ (tagCrc (Claims.pcAndEpc image) / 256 % 256 ∷ tagCrc (Claims.pcAndEpc image) % 256 ∷ []))),
+          (byte image 23 ∷ (Claims.pcAndEpc image ++ part image (number image 10) 2)),
       image,
     )
 unfolding outcome answer changed frameOf checked checkOf bytesOf tail pcAndEpc view bankAt wordAt epcLength rssi
@@ -100,8 +100,11 @@ write-acts image p = simp (pick-true, pick-false, pick-all-three, verdict-pick) 
 
 written-is : (image p : List ℕ) → byte p 4 ≤ 3
     → outcome image p (Store (wordAt (bankOf (view image) (byte p 4)) (number p 5)))
-    ≡ stored image 0x49 (offsetOf image (byte p 4) + 2 * number p 5) (drop 9 p)
-unfolding outcome answer changed frameOf checked checkOf bytesOf tail pcAndEpc view bankAt wordAt epcLength dataIn
+    ≡ (
+      framed 0x01 0x49 (Claims.tail image ++ (0x00 ∷ [])),
+      writtenIn image (byte p 4) (sets image (offsetOf image (byte p 4) + 2 * number p 5) (drop 9 p)),
+    )
+unfolding outcome answer changed crcKept withCrc crcWord frameOf checked checkOf bytesOf tail pcAndEpc view bankAt wordAt epcLength bankIn dataIn
 written-is image p known = rw (offset-is image (byte p 4) known)
 
 pub write-rows : WriteRows
@@ -123,6 +126,7 @@ write-rows image p =
     tag-row image p _ _ _ _ refl λ epc.
     tag-row image p _ _ _ _ refl λ tid.
     tag-row image p _ _ _ _ refl λ user.
+    tag-row image p _ _ _ _ (names-crc (byte p 4) (number p 5) (number p 7) some) λ not-crc.
     tag-row image p _ _ _ _ (broken-is image p) λ kept.
     last-row (written-is image p known)))
 

@@ -1,11 +1,11 @@
 -- The tests of the definitions as tests on raw bytes: standings, banks, touched words, regions that a lock refuses.
 use Prim.Native.Nat.{ℕ, _+_, _*_, _/_, _%_, _^_, _≤_, _<_, _-_, zero, suc}
-use borrow.Author.Tests.{leb-true, leb-false, ltb-true, ltb-false, ne-eqb, le-leb, lt-ltb, le-ltb}
+use borrow.Author.Tests.{leb-true, leb-false, ltb-true, ltb-false, ne-eqb, le-leb, lt-leb, lt-ltb, le-ltb}
 use lib.Dec.{eqb, leb, ltb}
 use lib.ListN.{drop}
 use mathlib.Core.Bool.{Bool, true, false, not, _&&_, _||_, or-false, and-assoc}
 use mathlib.Core.List.{List}
-use mathlib.Core.Path.{_≡_, refl, _∙_}
+use mathlib.Core.Path.{_≡_, refl, ap, sym, _∙_}
 use native.Mathlib.Omega.{arith}
 use Rattle.frame.proofs.Picks.{pick-or}
 use Rattle.frame.proofs.Tests.{either}
@@ -13,7 +13,7 @@ use Rattle.frame.specs.Bytes.{pick, byte, number}
 use Rattle.tag.proofs.Data.{number-in-data}
 use Rattle.tag.proofs.LockWords.{two-bits, lowest-bits}
 use Rattle.tag.specs.Claims.{accessStored, wrong, secured, refuses, among}
-use Rattle.tag.specs.Commands.{dataIn, lengthBroken}
+use Rattle.tag.specs.Commands.{dataIn, namesCrc, lengthBroken}
 use Rattle.image.specs.Image.{bankAt, view, bankOf, epcLength, accessPassword}
 use Rattle.tag.specs.Locks.{pairs, standingOf, standing, isSecured, isWrong, allows, touches, mayTouchPasswords, mayRead, mayWrite}
 use Rattle.tag.specs.declared.commands.Act.{Act}
@@ -171,6 +171,14 @@ unwritable image given bank pointer count x y known some =
 pub short-too : (n m : ℕ) (x y : Act) → 9 ≤ m → pick (not (eqb n m)) x y ≡ pick (ltb n 9) x (pick (not (eqb n m)) x y)
 unfolding pick
 short-too n m x y long = either (ltb n 9) (λ h. let short : n < 9 = ltb-true _ _ h in simp (h, ne-eqb n m (omega arith))) (λ h. simp h)
+
+-- the first word is among the named ones where these begin with it
+pub names-crc : (bank pointer count : ℕ) → 1 ≤ count → namesCrc bank pointer ≡ (eqb bank 1 && among pointer count 0)
+unfolding namesCrc
+names-crc bank zero count some =
+    let more : ltb 0 (0 + count) ≡ true = lt-ltb 0 (0 + count) (omega arith) in
+    ap (λ (t : Bool). eqb bank 1 && t) (sym more)
+names-crc bank (suc n) count some = simp (ne-eqb (suc n) 0 (omega arith), lt-leb (suc n) 0 (omega arith))
 
 pub broken-is : (image p : List ℕ)
     → lengthBroken (view image) (byte p 4) (number p 5) (number p 7) (drop 9 p)

@@ -5,9 +5,9 @@ use mathlib.Core.List.{List, [], _∷_}
 use mathlib.Core.Path.{_≡_, refl}
 use Rattle.frame.specs.Bytes.{pick, firstOf, bytesOf}
 use Rattle.frame.specs.Frames.{frameOf, checked, checkOf}
-use Rattle.tag.specs.Answers.{pcAndEpc, tail, answer, changed}
+use Rattle.tag.specs.Answers.{tail, answer, changed}
 use Rattle.tag.specs.Claims.{outcome, plain, tagError}
-use Rattle.image.specs.Image.{bankAt, view, wordAt, epcLength}
+use Rattle.image.specs.Image.{bankAt, view, wordAt, epcLength, pcAndEpc}
 use Rattle.tag.specs.declared.commands.Act.{Act}
 use Rattle.tag.specs.declared.commands.Act.the-variants.{PlainError, TagError}
 

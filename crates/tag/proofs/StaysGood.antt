@@ -1,24 +1,27 @@
 -- Whatever a command does, a good image stays good.
 use Prim.Native.Nat.{ℕ, _+_, _-_, _*_, _/_, _%_, _≤_, _<_}
 use borrow.Author.Tests.{leb-true, leb-false, ltb-true, ltb-false, le-leb, lt-ltb}
-use lib.Dec.{leb, ltb}
+use lib.Dec.{eqb, leb, ltb}
 use lib.ListN.{length}
 use lib.Seq.{sets}
 use mathlib.Core.Bool.{true, false}
 use mathlib.Core.List.{List, [], _∷_}
+use mathlib.Core.Logic.{⊎-elim}
 use mathlib.Core.Path.{_≡_, ap, sym, subst, _∙_}
 use native.Mathlib.Omega.{arith}
 use Rattle.frame.proofs.Numbers.{byte-one, number-two-bytes, length-bytes-of}
 use Rattle.frame.proofs.Stores.{byte-sets-before, byte-sets-behind, byte-sets-in, number-sets-before, number-sets-behind, number-sets-in}
+use Rattle.frame.proofs.Picks.{by-test}
 use Rattle.frame.proofs.Tests.{either}
 use Rattle.frame.specs.Bytes.{byte, number, bytesOf, twoBytes}
 use Rattle.tag.proofs.Cases.{Writes, placeOf, newBits, act-cases}
 use Rattle.image.proofs.Places.{bank-cases}
-use Rattle.tag.proofs.NamedWords.{Inside, inside, data-length}
+use Rattle.tag.proofs.NamedWords.{Inside, inside, away, data-length}
 use Rattle.image.proofs.Changes.{view-sets}
-use Rattle.image.proofs.GoodImages.{Good, good-facts, good-holds}
+use Rattle.image.proofs.CrcStores.{offset-stays, kept-before, kept-behind, good-anew, kept-anew}
+use Rattle.image.proofs.GoodImages.{Good, CrcKept, good-facts, crc-kept, good-holds}
 use Rattle.tag.proofs.LockPairs.{pairs-small, new-pairs-small, bits-small}
-use Rattle.tag.specs.Answers.{changed}
+use Rattle.tag.specs.Answers.{crcKept, changed}
 use Rattle.tag.specs.Commands.{bankIn, pointerIn, countIn, dataIn, ldIn, lengthBroken, actOf}
 use Rattle.image.specs.Image.{good, view, bankAt, bankOf, wordAt, epcLength}
 use Rattle.tag.specs.Bounds.{Paired}
@@ -116,7 +119,7 @@ module _ (image : List ℕ) (g : Good (view image)) (pointer count : ℕ) (words
 
 -- ---- the three stores
 
-good-store : (image p : List ℕ) → Good (view image) → Writes image p → Good (view (sets image (placeOf image p) (dataIn p)))
+pub good-store : (image p : List ℕ) → Good (view image) → Writes image p → Good (view (sets image (placeOf image p) (dataIn p)))
 unfolding FitsAfter pcAfter view bankAt
 good-store image p g w =
     let at : Inside image p = inside image p g (w .aim) in
@@ -124,6 +127,25 @@ good-store image p g w =
     (rw (number-sets-before image (placeOf image p) (dataIn p) 20 (omega arith)) (g .upper-six))
     (rw (byte-sets-before image (placeOf image p) (dataIn p) 22 (omega arith)) (g .state-known))
     (fits-after image g (pointerIn p) (countIn p) (dataIn p) (data-length image p w) (bankIn p) (w .aim .bank-known) (w .aim .inside) (w .kept))
+
+-- ---- and the CRC word
+
+pub good-write : (image p : List ℕ) → good image ≡ true → Writes image p
+    → good (crcKept (bankIn p) (view image .epc .offset) (sets image (placeOf image p) (dataIn p))) ≡ true
+unfolding crcKept
+good-write image p h w =
+    let g : Good (view image) = good-facts image h in
+    let at : Inside image p = inside image p g (w .aim) in
+    let new : List ℕ = sets image (placeOf image p) (dataIn p) in
+    let place : view image .epc .offset ≡ view new .epc .offset = sym (offset-stays image (placeOf image p) (dataIn p) (omega (arith, at .from))) in
+    let stored : Good (view new) = good-store image p g w in
+    by-test (λ (l : List ℕ). good l ≡ true) (eqb (bankIn p) 1)
+    (λ epc. good-holds _ (good-anew new stored _ place) (kept-anew new stored _ place))
+    (λ not-epc.
+    good-holds _ stored
+    (⊎-elim (λ before. kept-behind image (placeOf image p) (dataIn p) (omega (arith, at .from)) (crc-kept image h) (omega (arith, data-length image p w)))
+    (λ behind. kept-before image (placeOf image p) (dataIn p) (omega (arith, at .from)) (crc-kept image h) (omega (arith, g .epc-fits)))
+    (away image p g (w .aim) not-epc)))
 
 -- what a Lock stores is read again as it is
 pub stored-locks : (image : List ℕ) (bits : ℕ) → 24 ≤ length image → bits < 1024 → number (sets image 20 (twoBytes bits)) 20 ≡ bits
@@ -158,7 +180,8 @@ stays-good image p code h =
     act-cases (λ (act : Act). good (changed image p act) ≡ true) (λ e. h) (λ e. h) image p code
     (λ n. h)
     (λ n reads. h)
-    (λ n writes. good-holds _ (good-store image p g writes))
+    (λ n writes. good-write image p h writes)
     (λ n secured.
-    good-holds _ (good-locks image (newBits image p) g (bits-small _ (new-locks-paired image p))))
-    (λ n equal. good-holds _ (good-killed image g))
+    good-holds _ (good-locks image (newBits image p) g (bits-small _ (new-locks-paired image p)))
+    (kept-behind image 20 (twoBytes (newBits image p)) (omega arith) (crc-kept image h) (omega (arith, length-bytes-of 2 (newBits image p)))))
+    (λ n equal. good-holds _ (good-killed image g) (kept-behind image 22 (1 ∷ []) (omega arith) (crc-kept image h) (omega arith)))

@@ -129,8 +129,8 @@ InventoryRows =
     ((not (eqb (length p) 0), plain image 0x17)
     ∷ (isGone image, plain image 0x15)
     ∷ [])
-    -- "Else type 02, code 22: RSSI, PC, EPC, CRC-16 of PC and EPC (.. high byte first)."
-    (framed 0x02 0x22 (byte image 23 ∷ (pcAndEpc image ++ (tagCrc (pcAndEpc image) / 256 % 256 ∷ tagCrc (pcAndEpc image) % 256 ∷ []))), image)
+    -- "Else type 02, code 22: RSSI, PC, EPC, CRC-16 of PC and EPC (.. high byte first)." P4: "inventory sends the stored word", which is EPC word 0
+    (framed 0x02 0x22 (byte image 23 ∷ (pcAndEpc image ++ part image (number image 10) 2)), image)
 
 -- 0x39: "password (4), bank (1), pointer (2), count (2)."
 abbrev pub ReadRows : Type 0
@@ -159,6 +159,12 @@ ReadRows =
     -- "Else the tail, then the words."
     (framed 0x01 0x39 (tail image ++ part image (offsetOf image bank + 2 * pointer) (2 * count)), image)
 
+-- P4: "the named words, and EPC word 0 kept by this rule": `new` has the words already; where they are of the EPC bank, the CRC-16 of its PC and its L words is
+-- stored in EPC word 0
+abbrev pub writtenIn : List ℕ → ℕ → List ℕ → List ℕ
+writtenIn image bank new =
+    pick (eqb bank 1) (sets new (number image 10) (tagCrc (pcAndEpc new) / 256 % 256 ∷ tagCrc (pcAndEpc new) % 256 ∷ [])) new
+
 -- 0x49: "as 0x39 and then 2 x count data bytes."
 abbrev pub WriteRows : Type 0
 WriteRows =
@@ -186,11 +192,13 @@ WriteRows =
     ∷ (eqb bank 1 && refuses locks 5 4 isSecured, tagError image 0xB4)
     ∷ (eqb bank 2 && refuses locks 3 2 isSecured, tagError image 0xB4)
     ∷ (eqb bank 3 && refuses locks 1 0 isSecured, tagError image 0xB4)
+    -- P4: "A Write that names EPC word 0 answers B4 just after the lock check and before the length check."
+    ∷ (eqb bank 1 && among pointer count 0, tagError image 0xB4)
     -- "Bank 1, word 1 written, new L + 2 above the EPC words: B3.": the new PC is word 1 - pointer of the data, which begin at byte 9
     ∷ (eqb bank 1 && among pointer count 1 && ltb (wordsOf image 1) (number p (9 + 2 * (1 - pointer)) / 2 ^ 11 + 2), tagError image 0xB3)
     ∷ [])
     -- "Else all words are written; tail, 00."
-    (stored image 0x49 (offsetOf image bank + 2 * pointer) (drop 9 p))
+    (framed 0x01 0x49 (tail image ++ (0x00 ∷ [])), writtenIn image bank (sets image (offsetOf image bank + 2 * pointer) (drop 9 p)))
 
 -- "LD bits 19 to 10 are the mask, 9 to 0 the action." P3: "For each region whose permalock bit is already 1": that is lock bit `low`, and `high` its
 -- password bit

@@ -102,6 +102,10 @@ readAct v s bank pointer count =
 unfoldable pub readVerdict : View → Standing → ℕ → ℕ → ℕ → Act
 readVerdict v s bank pointer count = admitted v s 0x09 (readAct v s bank pointer count)
 
+-- P4: "A Write that names EPC word 0"
+unfoldable pub namesCrc : ℕ → ℕ → Bool
+namesCrc bank pointer = eqb bank 1 && eqb pointer 0
+
 -- 0x49: "Bank 1, word 1 written, new L + 2 above the EPC words: B3"; the new PC is data word 1 - pointer.
 unfoldable pub lengthBroken : View → ℕ → ℕ → ℕ → List ℕ → Bool
 lengthBroken v bank pointer count words =
@@ -110,14 +114,15 @@ lengthBroken v bank pointer count words =
     && (ltb 1 (pointer + count)
     && ltb (v .epc .words) (epcLength (number words (2 * (1 - pointer))) + 2)))
 
--- 0x49: "State: plain 10. Password: 16." And then: "Range: B3. A touched region not writable: B4. Bank 1, word 1 written, new L + 2
--- above the EPC words: B3. Else all words are written"
+-- 0x49: "State: plain 10. Password: 16." And then: "Range: B3. A touched region not writable: B4." P4: "A Write that names EPC word 0 answers B4 just after the lock
+-- check and before the length check." "Bank 1, word 1 written, new L + 2 above the EPC words: B3. Else all words are written"
 unfoldable pub writeAct : View → Standing → ℕ → ℕ → ℕ → List ℕ → Act
 writeAct v s bank pointer count words =
     pick (outside v bank pointer count) (TagError 0xB3)
     (pick (not (mayWrite v s bank pointer count)) (TagError 0xB4)
+    (pick (namesCrc bank pointer) (TagError 0xB4)
     (pick (lengthBroken v bank pointer count words) (TagError 0xB3)
-    (Store (wordAt (bankOf v bank) pointer))))
+    (Store (wordAt (bankOf v bank) pointer)))))
 
 unfoldable pub writeVerdict : View → Standing → ℕ → ℕ → ℕ → List ℕ → Act
 writeVerdict v s bank pointer count words = admitted v s 0x10 (writeAct v s bank pointer count words)

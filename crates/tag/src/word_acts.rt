@@ -10,7 +10,7 @@ use image::header::View;
 use image::header::bank_of;
 ghost use mathlib.Core.Path.{_≡_};
 ghost use Rattle.image.specs.Bounds.{Small};
-ghost use Rattle.tag.specs.Commands.{dataIn, outside, lengthBroken, readAct, writeAct};
+ghost use Rattle.tag.specs.Commands.{dataIn, outside, namesCrc, lengthBroken, readAct, writeAct};
 
 fn is_outside(v: View, bank: usize, pointer: usize, count: usize) -> bool
     ensures { λ r. ⌜ r ≡ outside v bank pointer count ⌝ }
@@ -37,6 +37,16 @@ pub(crate) fn read_act(v: View, s: Standing, bank: usize, pointer: usize, count:
         at: b.offset + 2 * pointer,
         length: 2 * count,
     }
+}
+
+// EPC word 0 is the tag's own.
+fn is_naming_crc(bank: usize, pointer: usize) -> bool
+    ensures { λ r. ⌜ r ≡ namesCrc bank pointer ⌝ }
+{
+    if bank != 1 {
+        return false;
+    }
+    pointer == 0
 }
 
 // The new PC stands among the data, which follow the first nine of the parameters.
@@ -75,6 +85,9 @@ pub(crate) fn write_act(
         return Act::TagError(0xB3);
     }
     if !may_write(v, s, bank, pointer, count) {
+        return Act::TagError(0xB4);
+    }
+    if is_naming_crc(bank, pointer) {
         return Act::TagError(0xB4);
     }
     if is_length_broken(v, bank, pointer, count, parameters) {

@@ -1,8 +1,10 @@
--- `notify` meets its contract: RSSI, PC, EPC and their CRC, and the frame round them.
+-- `notify` meets its contract: RSSI, PC, EPC and the CRC word, and the frame round them.
+use borrow.Author.Needs.{needs}
 use lib.ListN.{length-set}
 use native.Mathlib.Omega.{arith}
 use Rattle.execution.proofs.Pieces.{notify-closed}
-use borrow.Author.Needs.{needs}
+use Rattle.execution.proofs.Tails.{word-there}
+use Rattle.image.specs.Image.{view, bankAt}
 use Rattle.execution.proofs.answers.notify.Statement.{statement}
 use Rattle.execution.proofs.answers.notify.Tie as tie
 
@@ -18,17 +20,11 @@ add-put-pc-and-epc c = search needs
 put-pc-and-epc-requires : tie.Need-put-pc-and-epc-requires
 put-pc-and-epc-requires c κs = (search needs, simp length-set (omega arith))
 
-crc-of-epc-requires : tie.Need-crc-of-epc-requires
-crc-of-epc-requires c κs = search needs
+number-at-requires : tie.Need-number-at-requires
+number-at-requires c κs = search needs
 
-cast-put-bytes : tie.Need-cast-put-bytes
-cast-put-bytes c = search needs
-
-put-bytes-requires : tie.Need-put-bytes-requires
-put-bytes-requires c κs =
-    let put = c .before .before .before .before in
-    let read = put .before .before in
-    omega (arith, put .put-pc-and-epc .ensures .1, length-set (read .before .before .before .args .output .now) 5 (read .byte-at .result))
+copy-requires : tie.Need-copy-requires
+copy-requires c κs = search needs
 
 add-close : tie.Need-add-close
 add-close c = search needs
@@ -45,14 +41,17 @@ same-length c =
     omega (arith, length-set (read .before .before .before .args .output .now) 5 (read .byte-at .result))
 
 returns : tie.Need-returns
+unfolding view bankAt
 returns c =
     let wrote = c .before .before in
-    let numbered = wrote .before .before .before .before in
-    let worked = numbered .before in
-    let put = worked .before .before .before .before in
+    let copies = wrote .before .before .before .before in
+    let named = copies .before .before in
+    let put = named .before .before .before in
     let read = put .before .before in
-    notify-closed _ (read .before .before .before .pre .1) _ _ (read .byte-at .ensures) _ _ (put .put-pc-and-epc .ensures .0) (put .put-pc-and-epc .ensures .1)
-    _ (worked .crc-of-epc .ensures) _ (numbered .put-bytes .ensures) _ _ (wrote .close .ensures)
+    let start = read .before .before .before in
+    notify-closed _ (start .pre .1) _ _ (read .byte-at .ensures) _ _ (put .put-pc-and-epc .ensures .0) (put .put-pc-and-epc .ensures .1)
+    _ (named .number-at .ensures .0) (omega (arith, word-there _ (start .pre .0), named .number-at .ensures .0)) _ (copies .copy .ensures) _ _
+    (wrote .close .ensures)
 
 pub notify-spec : {M : Type 1} → statement M
 notify-spec =
@@ -62,9 +61,8 @@ notify-spec =
     slice-write-output
     add-put-pc-and-epc
     put-pc-and-epc-requires
-    crc-of-epc-requires
-    cast-put-bytes
-    put-bytes-requires
+    number-at-requires
+    copy-requires
     add-close
     sub-close
     close-requires

@@ -31,8 +31,8 @@ returns-2 c =
       pick-false,
     )
 
-is-length-broken-requires : tie.Need-is-length-broken-requires
-is-length-broken-requires c κs = search needs
+is-naming-crc-requires : tie.Need-is-naming-crc-requires
+is-naming-crc-requires c κs = search needs
 
 returns-3 : tie.Need-returns-3
 unfolding writeAct
@@ -44,29 +44,17 @@ returns-3 c =
       past1 .if1 .left,
       ← (past2 .before .may-write .ensures),
       past2 .if2 .left,
-      ← (c .before .is-length-broken .ensures),
+      ← (c .before .is-naming-crc .ensures),
       c .if3 .taken,
       pick-true,
       pick-false,
     )
 
-bank-of-requires : tie.Need-bank-of-requires
-bank-of-requires c κs = search needs
-
-mul-t12 : tie.Need-mul-t12
-mul-t12 c =
-    let past1 = c .before .before .before .before .before in
-    let near = inside-near _ _ _ _ (past1 .before .before .before .pre) (past1 .if1 .left) (past1 .before .is-outside .ensures) in
-    omega arith
-
-add-t13 : tie.Need-add-t13
-add-t13 c =
-    let past1 = c .before .before .before .before .before .before in
-    let near = inside-near _ _ _ _ (past1 .before .before .before .pre) (past1 .if1 .left) (past1 .before .is-outside .ensures) in
-    rw (c .before .bank-of .ensures) (omega arith)
+is-length-broken-requires : tie.Need-is-length-broken-requires
+is-length-broken-requires c κs = search needs
 
 returns-4 : tie.Need-returns-4
-unfolding writeAct wordAt
+unfolding writeAct
 returns-4 c =
     let past3 = c .before .before in
     let past2 = past3 .before .before in
@@ -76,8 +64,45 @@ returns-4 c =
       past1 .if1 .left,
       ← (past2 .before .may-write .ensures),
       past2 .if2 .left,
-      ← (past3 .before .is-length-broken .ensures),
+      ← (past3 .before .is-naming-crc .ensures),
       past3 .if3 .left,
+      ← (c .before .is-length-broken .ensures),
+      c .if4 .taken,
+      pick-true,
+      pick-false,
+    )
+
+bank-of-requires : tie.Need-bank-of-requires
+bank-of-requires c κs = search needs
+
+mul-t13 : tie.Need-mul-t13
+mul-t13 c =
+    let past1 = c .before .before .before .before .before .before .before in
+    let near = inside-near _ _ _ _ (past1 .before .before .before .pre) (past1 .if1 .left) (past1 .before .is-outside .ensures) in
+    omega arith
+
+add-t14 : tie.Need-add-t14
+add-t14 c =
+    let past1 = c .before .before .before .before .before .before .before .before in
+    let near = inside-near _ _ _ _ (past1 .before .before .before .pre) (past1 .if1 .left) (past1 .before .is-outside .ensures) in
+    rw (c .before .bank-of .ensures) (omega arith)
+
+returns-5 : tie.Need-returns-5
+unfolding writeAct wordAt
+returns-5 c =
+    let past4 = c .before .before in
+    let past3 = past4 .before .before in
+    let past2 = past3 .before .before in
+    let past1 = past2 .before .before in
+    simp (
+      ← (past1 .before .is-outside .ensures),
+      past1 .if1 .left,
+      ← (past2 .before .may-write .ensures),
+      past2 .if2 .left,
+      ← (past3 .before .is-naming-crc .ensures),
+      past3 .if3 .left,
+      ← (past4 .before .is-length-broken .ensures),
+      past4 .if4 .left,
       pick-false,
       c .before .bank-of .ensures,
     )
@@ -90,9 +115,11 @@ write-act-spec =
     returns
     may-write-requires
     returns-2
-    is-length-broken-requires
+    is-naming-crc-requires
     returns-3
+    is-length-broken-requires
+    returns-4
     bank-of-requires
-    mul-t12
-    add-t13
-    returns-4)
+    mul-t13
+    add-t14
+    returns-5)
