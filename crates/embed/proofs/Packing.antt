@@ -1,6 +1,8 @@
 -- The packed state: what the stores leave, what its numbers are as a reader's state, and each end of a call.
-use Prim.Native.Nat.{ℕ, _≤_, _<_}
-use borrow.Author.Tests.{lt-ltb, le-ltb, eq-eqb, ne-eqb}
+use Prim.Native.Nat.{ℕ, zero, suc, _^_, _≤_, _<_}
+use borrow.Author.Tests.{ltb-false, lt-ltb, le-ltb, eq-eqb, ne-eqb}
+use lib.Bits.{bitOr, or-lt}
+use lib.Dec.{ltb}
 use lib.ListN.{length, set, getD}
 use mathlib.Core.Bool.{Bool, true, false}
 use mathlib.Core.List.{List, [], _∷_}
@@ -13,6 +15,8 @@ use Rattle.embed.specs.Packed.{packed, countsIn, anyAbove, readerIn, lef
 use Rattle.embed.specs.declared.Unpacked.{Unpacked}
 use Rattle.embed.specs.declared.Unpacked.the-variants.{Fit, OutOfRange}
 use Rattle.frame.proofs.Picks.{pick-true, pick-false}
+use Rattle.frame.proofs.Tests.{either, or-neither}
+use Rattle.reader.proofs.Tallies.{or-most-l, or-most-r, orAll}
 use Rattle.reader.specs.Tallies.{tallyOf, limit}
 use Rattle.reader.specs.declared.state.Reader.{Reader}
 
@@ -33,19 +37,52 @@ ten-cases P ten (s0 ∷ s1 ∷ s2 ∷ s3 ∷ s4 ∷ s5 ∷ s6 ∷ s7 ∷ s8 ∷ 
 
 -- ---- the seven counts
 
-pub one-above : (n : ℕ) (counts : List ℕ) → limit < n → anyAbove (n ∷ counts) ≡ true
-unfolding anyAbove
-one-above n counts h = simp (lt-ltb limit n h)
-
 pub not-above : (n : ℕ) (counts : List ℕ) {b : Bool} → n ≤ limit → anyAbove counts ≡ b → anyAbove (n ∷ counts) ≡ b
 unfolding anyAbove
 not-above n counts h e = simp (le-ltb limit n h) e
 
-pub none-above : anyAbove [] ≡ false
+-- the counts together have no bit above those of a count exactly if none of them has
+pub within : (n : ℕ) (counts : List ℕ) → orAll n counts ≤ limit → (n ≤ limit) × (anyAbove counts ≡ false)
 unfolding anyAbove
-none-above = refl
+within n [] h = (h, refl)
+within n (m ∷ counts) h =
+    let rest : (bitOr n m ≤ limit) × (anyAbove counts ≡ false) = within (bitOr n m) counts h in
+    (omega (arith, or-most-l n m, rest .0), not-above m counts (omega (arith, or-most-r n m, rest .0)) (rest .1))
+
+none-at : (counts : List ℕ) → anyAbove counts ≡ false → (k : ℕ) → getD counts k 0 ≤ limit
+unfolding anyAbove limit
+none-at [] none k = omega arith
+none-at (n ∷ counts) none zero = ltb-false limit n (or-neither (ltb limit n) (anyAbove counts) none .0)
+none-at (n ∷ counts) none (suc k) = none-at counts (or-neither (ltb limit n) (anyAbove counts) none .1) k
+
+bits-within : (n : ℕ) (counts : List ℕ) → n ≤ limit → anyAbove counts ≡ false → orAll n counts ≤ limit
+unfolding anyAbove limit
+bits-within n [] h none = h
+bits-within n (m ∷ counts) h none =
+    let each : (ltb limit m ≡ false) × (anyAbove counts ≡ false) = or-neither (ltb limit m) (anyAbove counts) none in
+    let most : m ≤ limit = ltb-false limit m (each .0) in
+    let small : bitOr n m < 2 ^ 32 = or-lt 32 n m (omega arith) (omega arith) in
+    bits-within (bitOr n m) counts (omega arith) (each .1)
+
+pub fit-together : (n : ℕ) (counts : List ℕ) → orAll n counts ≤ limit → anyAbove (n ∷ counts) ≡ false
+fit-together n counts h = not-above n counts (within n counts h .0) (within n counts h .1)
+
+pub too-high-together : (n : ℕ) (counts : List ℕ) → limit < orAll n counts → anyAbove (n ∷ counts) ≡ true
+unfolding anyAbove
+too-high-together n counts h =
+    either (anyAbove (n ∷ counts)) (λ e. e)
+    (λ none.
+    let each : (ltb limit n ≡ false) × (anyAbove counts ≡ false) = or-neither (ltb limit n) (anyAbove counts) none in
+    absurd (omega (arith, bits-within n counts (ltb-false limit n (each .0)) (each .1))))
 
 module _ (state : List ℕ) where
+  -- each of the counts is one that a tally can hold
+  pub counts-fit :
+      (k : ℕ)
+      → orAll (getD state 1 0) (getD state 2 0 ∷ getD state 3 0 ∷ getD state 4 0 ∷ getD state 5 0 ∷ getD state 6 0 ∷ getD state 7 0 ∷ []) ≤ limit
+      → getD (countsIn state) k 0 ≤ limit
+  counts-fit k h = none-at (countsIn state) (fit-together _ _ h) k
+
   pub too-high : anyAbove (countsIn state) ≡ true → OutOfRange ≡ readerIn state
   unfolding readerIn
   too-high h = simp (h, pick-true)

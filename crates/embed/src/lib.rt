@@ -21,30 +21,13 @@ enum Unpacked {
     OutOfRange,
 }
 
-// The reader of a cursor and seven counts, or that a count is more than a tally can hold.
+// The reader of a cursor and seven counts, or that a count is more than a tally can hold: then it has a bit above theirs.
 fn reader_of(state: &[u64]) -> Unpacked
     requires { ⌜ length (now state) ≡ 10 ⌝ }
     ensures { λ r. ⌜ r ≡ readerIn (now (state .entry)) ⌝ }
 {
-    if LIMIT < state[1] {
-        return Unpacked::OutOfRange;
-    }
-    if LIMIT < state[2] {
-        return Unpacked::OutOfRange;
-    }
-    if LIMIT < state[3] {
-        return Unpacked::OutOfRange;
-    }
-    if LIMIT < state[4] {
-        return Unpacked::OutOfRange;
-    }
-    if LIMIT < state[5] {
-        return Unpacked::OutOfRange;
-    }
-    if LIMIT < state[6] {
-        return Unpacked::OutOfRange;
-    }
-    if LIMIT < state[7] {
+    let bits = state[1] | state[2] | state[3] | state[4] | state[5] | state[6] | state[7];
+    if LIMIT < bits {
         return Unpacked::OutOfRange;
     }
     Unpacked::Fit(Reader {

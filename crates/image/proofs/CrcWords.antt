@@ -1,5 +1,5 @@
 -- The bytes that the CRC word is worked of: those of the PC and the EPC that are there.
-use Prim.Native.Nat.{ℕ, _+_, _-_, _≤_, _<_}
+use Prim.Native.Nat.{ℕ, _+_, _-_, _*_, _/_, _≤_, _<_}
 use borrow.Author.Tests.{ltb-true, ltb-false, lt-ltb, le-ltb}
 use lib.Dec.{ltb}
 use lib.ListN.{length, take, drop, length-drop, drop-of-length-le}
@@ -10,9 +10,10 @@ use native.Mathlib.Omega.{arith}
 use Rattle.crc.specs.Crc.{tagCrc}
 use Rattle.frame.proofs.Picks.{pick-true, pick-false}
 use Rattle.frame.proofs.Tests.{either}
-use Rattle.frame.specs.Bytes.{part}
-use Rattle.image.specs.Image.{view, wordAt, epcLength, pcAndEpc, crcWord}
+use Rattle.frame.specs.Bytes.{number, part}
+use Rattle.image.specs.Image.{view, bankAt, wordAt, epcLength, pcAndEpc, crcWord}
 use Rattle.image.specs.Spans.{EpcSpan, atMost}
+use Rattle.image.specs.declared.header.Bank.{Bank}
 use Rattle.image.specs.declared.header.Span.{Span}
 
 at-most-limit : (n limit : ℕ) → limit < n → atMost n limit ≡ limit
@@ -58,3 +59,19 @@ worked-bytes image p read =
     (count-cut image from (p .count)
     ∙ ap (take (p .count)) (from-cut image (p .from))
     ∙ rw (read .from-is, read .count-is) refl))
+
+-- where all of them are there, with the PC read on the way
+module _ (image : List ℕ) (epc : Bank) (there : epc ≡ view image .epc) (pc : ℕ) (read : pc ≡ number image (epc .offset + 2)) where
+  pc-is : pc ≡ view image .pc
+  unfolding view bankAt
+  pc-is = read ∙ ap (λ (b : Bank). number image (b .offset + 2)) there
+
+  pub all-there : epc .offset + 4 + 2 * epcLength (view image .pc) ≤ length image → epc .offset + 2 + (2 + 2 * (pc / 2048)) ≤ length image
+  unfolding epcLength
+  all-there h = omega (arith, pc-is)
+
+  pub worked-there : tagCrc (take (epc .offset + 2 + (2 + 2 * (pc / 2048)) - (epc .offset + 2)) (drop (epc .offset + 2) image)) ≡ crcWord image
+  unfolding crcWord pcAndEpc wordAt epcLength part
+  worked-there =
+      let whole : epc .offset + 2 + (2 + 2 * (pc / 2048)) - (epc .offset + 2) ≡ 2 + 2 * (pc / 2048) = omega arith in
+      ap tagCrc (rw (whole, pc-is, there) refl)

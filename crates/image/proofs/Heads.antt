@@ -87,6 +87,20 @@ pc-inside v w head header banks =
     let last : v .user .offset + 2 * v .user .words ≤ v .total = leb-true _ _ (all-at _ 10 banks) in
     omega arith
 
+-- and so are the words that it counts, where these fit their bank
+pub epc-inside : (v w : View) → v ≡ headOf w → goodHeader v ≡ true → goodBanks v ≡ true → goodTag w ≡ true
+    → v .epc .offset + 4 + 2 * epcLength (w .pc) ≤ w .size
+unfolding headOf goodHeader goodBanks goodTag endOf wordAt
+epc-inside v w head header banks tag =
+    let size : v .size ≡ w .size = ap (λ (u : View). u .size) head in
+    let total : v .total ≡ v .size = eqb-true _ _ (all-at _ 2 header) in
+    let tid : v .epc .offset + 2 * v .epc .words ≤ v .tid .offset = leb-true _ _ (all-at _ 8 banks) in
+    let user : v .tid .offset + 2 * v .tid .words ≤ v .user .offset = leb-true _ _ (all-at _ 9 banks) in
+    let last : v .user .offset + 2 * v .user .words ≤ v .total = leb-true _ _ (all-at _ 10 banks) in
+    let words : v .epc .words ≡ w .epc .words = ap (λ (b : Bank). b .words) (epc-same v w head) in
+    let fits : epcLength (w .pc) + 2 ≤ w .epc .words = leb-true _ _ (all-at _ 2 tag) in
+    omega arith
+
 module _ (image : List ℕ) (v : View) (head : v ≡ headOf (view image)) where
   pub offset-same : v .epc .offset ≡ number image 10
   unfolding view bankAt

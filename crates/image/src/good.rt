@@ -1,16 +1,15 @@
 // Whether an image is good (document 01, "The image"): one test after another, and the first that fails settles it.
-use crate::crc_word::crc_of_epc;
 use crate::header::Bank;
 use crate::header::View;
 use crate::header::head_of;
 use crate::header::number_in;
 ghost use mathlib.Core.Path.{_≡_};
-ghost use Prim.Native.Nat.{_+_, _<_};
+ghost use Prim.Native.Nat.{_+_, _*_, _<_, _≤_};
 ghost use lib.Dec.{leb};
 ghost use lib.ListN.{length};
 ghost use Rattle.image.specs.Bounds.{SmallBank, Small};
 ghost use Rattle.image.specs.Spans.{headOf};
-ghost use Rattle.image.specs.Image.{endOf, view, goodHeader, goodBanks, goodTag, goodCrc, good};
+ghost use Rattle.image.specs.Image.{endOf, view, epcLength, goodHeader, goodBanks, goodTag, goodCrc, good};
 
 // Whether a bank's end is at most `limit`. Both fields come from two bytes each, so the sum does not wrap.
 fn ends_by(b: Bank, limit: usize) -> bool
@@ -100,11 +99,14 @@ fn is_good_tag(image: &[u8], v: View) -> bool
     true
 }
 
+// PC and EPC are known to be there, so that nothing is tested on the way to them: `crc_of_epc` is for any image.
 fn is_good_crc(image: &[u8], epc: Bank) -> bool
-    requires { ⌜ (epc .offset ≡ view (now image) .epc .offset) × (epc .offset + 1 < length (now image)) ⌝ }
+    requires { ⌜ (epc ≡ view (now image) .epc) × (epc .offset + 4 + 2 * epcLength (view (now image) .pc) ≤ length (now image)) ⌝ }
     ensures { λ r. ⌜ r ≡ goodCrc (now (image .entry)) ⌝ }
 {
-    number_in(image, epc.offset) == crc_of_epc(image) as usize
+    let from = epc.offset + 2;
+    let count = 2 + 2 * (number_in(image, from) / 2048);
+    number_in(image, epc.offset) == crc::shifts::tag_crc(&image[from..from + count]) as usize
 }
 
 pub fn is_good(image: &[u8]) -> bool

@@ -1,6 +1,7 @@
 -- Laws of the tally: when it is full, and what a raised count is.
 use Prim.Native.Nat.{ℕ, zero, suc, _+_, _≤_, _<_}
 use borrow.Author.Tests.{eq-eqb, ne-eqb, eqb-false}
+use lib.Bits.{bitOr, and-le-l, and-le-r, or-add-and}
 use lib.Dec.{eqb}
 use lib.ListN.{length, getD}
 use mathlib.Core.Bool.{Bool, true, false, _||_}
@@ -36,6 +37,29 @@ pub few-counts : (counts : List ℕ) (n : ℕ) → sum counts ≤ n → n < limi
 unfolding anyAtLimit sum
 few-counts [] n few small = refl
 few-counts (m ∷ counts) n few small = simp (ne-eqb m limit (λ e. omega arith)) (few-counts counts n (omega arith) small)
+
+-- nor where their bits together are below it
+pub or-most-l : (a b : ℕ) → a ≤ bitOr a b
+or-most-l a b = omega (arith, or-add-and a b, and-le-r a b)
+
+pub or-most-r : (a b : ℕ) → b ≤ bitOr a b
+or-most-r a b = omega (arith, or-add-and a b, and-le-l a b)
+
+abbrev pub orAll : ℕ → List ℕ → ℕ
+orAll n [] = n
+orAll n (m ∷ counts) = orAll (bitOr n m) counts
+
+below : (n : ℕ) (counts : List ℕ) → orAll n counts < limit → (n < limit) × (anyAtLimit counts ≡ false)
+unfolding anyAtLimit
+below n [] h = (h, refl)
+below n (m ∷ counts) h =
+    let rest : (bitOr n m < limit) × (anyAtLimit counts ≡ false) = below (bitOr n m) counts h in
+    (omega (arith, or-most-l n m, rest .0), not-at-limit m counts (λ e. omega (arith, or-most-r n m, rest .0, e)) (rest .1))
+
+pub few-bits : (n : ℕ) (counts : List ℕ) → orAll n counts < limit → anyAtLimit (n ∷ counts) ≡ false
+few-bits n counts h =
+    let all : (n < limit) × (anyAtLimit counts ≡ false) = below n counts h in
+    not-at-limit n counts (λ e. omega (arith, all .0, e)) (all .1)
 
 -- no count of a tally that is not full is at the limit: good 0, error 1, and the five reasons from 2 on
 not-at : (counts : List ℕ) → anyAtLimit counts ≡ false → (k : ℕ) → k < length counts → getD counts k 0 ≡ limit → ⊥

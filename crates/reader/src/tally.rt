@@ -154,10 +154,20 @@ impl Tally {
         }
     }
 
-    // Some count is at the limit.
+    // Some count is at the limit. Every call asks this, and hardly ever is one: the bits of all of them together settle it at once.
     pub fn is_full(self) -> bool
         ensures { λ r. ⌜ r ≡ full self ⌝ }
     {
+        let bits = self.good
+            | self.error
+            | self.header
+            | self.kind
+            | self.long
+            | self.check
+            | self.end;
+        if bits < LIMIT {
+            return false;
+        }
         if self.good == LIMIT {
             return true;
         }

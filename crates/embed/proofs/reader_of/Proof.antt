@@ -1,141 +1,139 @@
--- `reader_of` meets its contract: each early return is a count that is out of range.
-use Rattle.embed.proofs.Packing.{one-above, not-above, none-above, too-high, all-fit}
+-- `reader_of` meets its contract: the bits of all counts together tell whether one is out of range.
+use denote.Ref.{now}
+use native.Mathlib.Omega.{arith}
+use Rattle.embed.proofs.Packing.{too-high-together, fit-together, counts-fit, too-high, all-fit}
 use Rattle.reader.specs.Tallies.{limit}
 use borrow.Author.Needs.{needs}
 use Rattle.embed.proofs.reader_of.Statement.{statement}
 use Rattle.embed.proofs.reader_of.Tie as tie
 
-shared-slice-read-if1 : tie.Need-shared-slice-read-if1
-shared-slice-read-if1 c = search needs
+shared-slice-read-bits : tie.Need-shared-slice-read-bits
+shared-slice-read-bits c = search needs
+
+shared-slice-read-bits-2 : tie.Need-shared-slice-read-bits-2
+shared-slice-read-bits-2 c = search needs
+
+shared-slice-read-bits-3 : tie.Need-shared-slice-read-bits-3
+shared-slice-read-bits-3 c = search needs
+
+shared-slice-read-bits-4 : tie.Need-shared-slice-read-bits-4
+shared-slice-read-bits-4 c = search needs
+
+shared-slice-read-bits-5 : tie.Need-shared-slice-read-bits-5
+shared-slice-read-bits-5 c = search needs
+
+shared-slice-read-bits-6 : tie.Need-shared-slice-read-bits-6
+shared-slice-read-bits-6 c = search needs
+
+shared-slice-read-bits-7 : tie.Need-shared-slice-read-bits-7
+shared-slice-read-bits-7 c = search needs
 
 returns : tie.Need-returns
 unfolding limit
-returns c = too-high _ (one-above _ _ (c .if1 .taken))
+returns c = too-high _ (too-high-together _ _ (c .if1 .taken))
 
-shared-slice-read-if2 : tie.Need-shared-slice-read-if2
-shared-slice-read-if2 c = search needs
+shared-slice-read-t4 : tie.Need-shared-slice-read-t4
+shared-slice-read-t4 c = search needs
+
+shared-slice-read-t6 : tie.Need-shared-slice-read-t6
+shared-slice-read-t6 c = search needs
+
+cast-t26 : tie.Need-cast-t26
+unfolding limit
+cast-t26 c =
+    let past1 = c .before .before in
+    let start = past1 .before .before .before .before .before .before .before .before in
+    omega (arith, counts-fit (now (start .args .state)) 0 (past1 .if1 .left))
+
+shared-slice-read-t21 : tie.Need-shared-slice-read-t21
+shared-slice-read-t21 c = search needs
+
+cast-t28 : tie.Need-cast-t28
+unfolding limit
+cast-t28 c =
+    let past1 = c .before .before .before in
+    let start = past1 .before .before .before .before .before .before .before .before in
+    omega (arith, counts-fit (now (start .args .state)) 1 (past1 .if1 .left))
+
+shared-slice-read-t19 : tie.Need-shared-slice-read-t19
+shared-slice-read-t19 c = search needs
+
+cast-t30 : tie.Need-cast-t30
+unfolding limit
+cast-t30 c =
+    let past1 = c .before .before .before .before in
+    let start = past1 .before .before .before .before .before .before .before .before in
+    omega (arith, counts-fit (now (start .args .state)) 2 (past1 .if1 .left))
+
+shared-slice-read-t18 : tie.Need-shared-slice-read-t18
+shared-slice-read-t18 c = search needs
+
+cast-t32 : tie.Need-cast-t32
+unfolding limit
+cast-t32 c =
+    let past1 = c .before .before .before .before .before in
+    let start = past1 .before .before .before .before .before .before .before .before in
+    omega (arith, counts-fit (now (start .args .state)) 3 (past1 .if1 .left))
+
+shared-slice-read-t16 : tie.Need-shared-slice-read-t16
+shared-slice-read-t16 c = search needs
+
+cast-t34 : tie.Need-cast-t34
+unfolding limit
+cast-t34 c =
+    let past1 = c .before .before .before .before .before .before in
+    let start = past1 .before .before .before .before .before .before .before .before in
+    omega (arith, counts-fit (now (start .args .state)) 4 (past1 .if1 .left))
+
+shared-slice-read-t15 : tie.Need-shared-slice-read-t15
+shared-slice-read-t15 c = search needs
+
+cast-t36 : tie.Need-cast-t36
+unfolding limit
+cast-t36 c =
+    let past1 = c .before .before .before .before .before .before .before in
+    let start = past1 .before .before .before .before .before .before .before .before in
+    omega (arith, counts-fit (now (start .args .state)) 5 (past1 .if1 .left))
+
+shared-slice-read-t13 : tie.Need-shared-slice-read-t13
+shared-slice-read-t13 c = search needs
+
+cast-t38 : tie.Need-cast-t38
+unfolding limit
+cast-t38 c =
+    let past1 = c .before .before .before .before .before .before .before .before in
+    let start = past1 .before .before .before .before .before .before .before .before in
+    omega (arith, counts-fit (now (start .args .state)) 6 (past1 .if1 .left))
 
 returns-2 : tie.Need-returns-2
 unfolding limit
-returns-2 c = too-high _ (not-above _ _ (c .before .before .if1 .left) (one-above _ _ (c .if2 .taken)))
-
-shared-slice-read-if3 : tie.Need-shared-slice-read-if3
-shared-slice-read-if3 c = search needs
-
-returns-3 : tie.Need-returns-3
-unfolding limit
-returns-3 c = too-high _ (not-above _ _ (c .before .before .before .before .if1 .left) (not-above _ _ (c .before .before .if2 .left) (one-above _ _ (c .if3 .taken))))
-
-shared-slice-read-if4 : tie.Need-shared-slice-read-if4
-shared-slice-read-if4 c = search needs
-
-returns-4 : tie.Need-returns-4
-unfolding limit
-returns-4 c = too-high _ (not-above _ _ (c .before .before .before .before .before .before .if1 .left) (not-above _ _ (c .before .before .before .before .if2 .left) (not-above _ _ (c .before .before .if3 .left) (one-above _ _ (c .if4 .taken)))))
-
-shared-slice-read-if5 : tie.Need-shared-slice-read-if5
-shared-slice-read-if5 c = search needs
-
-returns-5 : tie.Need-returns-5
-unfolding limit
-returns-5 c = too-high _ (not-above _ _ (c .before .before .before .before .before .before .before .before .if1 .left) (not-above _ _ (c .before .before .before .before .before .before .if2 .left) (not-above _ _ (c .before .before .before .before .if3 .left) (not-above _ _ (c .before .before .if4 .left) (one-above _ _ (c .if5 .taken))))))
-
-shared-slice-read-if6 : tie.Need-shared-slice-read-if6
-shared-slice-read-if6 c = search needs
-
-returns-6 : tie.Need-returns-6
-unfolding limit
-returns-6 c = too-high _ (not-above _ _ (c .before .before .before .before .before .before .before .before .before .before .if1 .left) (not-above _ _ (c .before .before .before .before .before .before .before .before .if2 .left) (not-above _ _ (c .before .before .before .before .before .before .if3 .left) (not-above _ _ (c .before .before .before .before .if4 .left) (not-above _ _ (c .before .before .if5 .left) (one-above _ _ (c .if6 .taken)))))))
-
-shared-slice-read-if7 : tie.Need-shared-slice-read-if7
-shared-slice-read-if7 c = search needs
-
-returns-7 : tie.Need-returns-7
-unfolding limit
-returns-7 c = too-high _ (not-above _ _ (c .before .before .before .before .before .before .before .before .before .before .before .before .if1 .left) (not-above _ _ (c .before .before .before .before .before .before .before .before .before .before .if2 .left) (not-above _ _ (c .before .before .before .before .before .before .before .before .if3 .left) (not-above _ _ (c .before .before .before .before .before .before .if4 .left) (not-above _ _ (c .before .before .before .before .if5 .left) (not-above _ _ (c .before .before .if6 .left) (one-above _ _ (c .if7 .taken))))))))
-
-shared-slice-read-t3 : tie.Need-shared-slice-read-t3
-shared-slice-read-t3 c = search needs
-
-shared-slice-read-t14 : tie.Need-shared-slice-read-t14
-shared-slice-read-t14 c = search needs
-
-cast-t15 : tie.Need-cast-t15
-cast-t15 c = search needs
-
-shared-slice-read-t17 : tie.Need-shared-slice-read-t17
-shared-slice-read-t17 c = search needs
-
-cast-t18 : tie.Need-cast-t18
-cast-t18 c = search needs
-
-shared-slice-read-t20 : tie.Need-shared-slice-read-t20
-shared-slice-read-t20 c = search needs
-
-cast-t21 : tie.Need-cast-t21
-cast-t21 c = search needs
-
-shared-slice-read-t23 : tie.Need-shared-slice-read-t23
-shared-slice-read-t23 c = search needs
-
-cast-t24 : tie.Need-cast-t24
-cast-t24 c = search needs
-
-shared-slice-read-t26 : tie.Need-shared-slice-read-t26
-shared-slice-read-t26 c = search needs
-
-cast-t27 : tie.Need-cast-t27
-cast-t27 c = search needs
-
-shared-slice-read-t29 : tie.Need-shared-slice-read-t29
-shared-slice-read-t29 c = search needs
-
-cast-t30 : tie.Need-cast-t30
-cast-t30 c = search needs
-
-shared-slice-read-t32 : tie.Need-shared-slice-read-t32
-shared-slice-read-t32 c = search needs
-
-cast-t33 : tie.Need-cast-t33
-cast-t33 c = search needs
-
-returns-8 : tie.Need-returns-8
-unfolding limit
-returns-8 c =
-    let all = c .before .before .before .before .before .before .before .before in
-    all-fit _ (not-above _ _ (all .before .before .before .before .before .before .before .before .before .before .before .before .if1 .left) (not-above _ _ (all .before .before .before .before .before .before .before .before .before .before .if2 .left) (not-above _ _ (all .before .before .before .before .before .before .before .before .if3 .left) (not-above _ _ (all .before .before .before .before .before .before .if4 .left) (not-above _ _ (all .before .before .before .before .if5 .left) (not-above _ _ (all .before .before .if6 .left) (not-above _ _ (all .if7 .left) none-above)))))))
+returns-2 c = all-fit _ (fit-together _ _ (c .before .before .before .before .before .before .before .before .if1 .left))
 
 pub reader-of-spec : {M : Type 1} → statement M
 reader-of-spec =
     tie.close
     (tie.spec
-    shared-slice-read-if1
+    shared-slice-read-bits
+    shared-slice-read-bits-2
+    shared-slice-read-bits-3
+    shared-slice-read-bits-4
+    shared-slice-read-bits-5
+    shared-slice-read-bits-6
+    shared-slice-read-bits-7
     returns
-    shared-slice-read-if2
-    returns-2
-    shared-slice-read-if3
-    returns-3
-    shared-slice-read-if4
-    returns-4
-    shared-slice-read-if5
-    returns-5
-    shared-slice-read-if6
-    returns-6
-    shared-slice-read-if7
-    returns-7
-    shared-slice-read-t3
-    shared-slice-read-t14
-    cast-t15
-    shared-slice-read-t17
-    cast-t18
-    shared-slice-read-t20
-    cast-t21
-    shared-slice-read-t23
-    cast-t24
-    shared-slice-read-t26
-    cast-t27
-    shared-slice-read-t29
+    shared-slice-read-t4
+    shared-slice-read-t6
+    cast-t26
+    shared-slice-read-t21
+    cast-t28
+    shared-slice-read-t19
     cast-t30
-    shared-slice-read-t32
-    cast-t33
-    returns-8)
+    shared-slice-read-t18
+    cast-t32
+    shared-slice-read-t16
+    cast-t34
+    shared-slice-read-t15
+    cast-t36
+    shared-slice-read-t13
+    cast-t38
+    returns-2)

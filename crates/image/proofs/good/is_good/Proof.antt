@@ -2,13 +2,11 @@
 use borrow.Author.Needs.{needs}
 use borrow.Author.Tests.{lt-leb}
 use mathlib.Core.Bool.{and-false}
-use mathlib.Core.Path.{ap, sym, _∙_}
-use native.Mathlib.Omega.{arith}
+use mathlib.Core.Path.{sym, _∙_}
 use Rattle.frame.proofs.Tests.{not-holds, not-fails}
 use Rattle.frame.specs.Bytes.{all}
-use Rattle.image.proofs.Heads.{header-same, banks-same, epc-same, pc-inside}
+use Rattle.image.proofs.Heads.{header-same, banks-same, epc-same, pc-inside, epc-inside}
 use Rattle.image.specs.Image.{good, goodHeader, view}
-use Rattle.image.specs.declared.header.Bank.{Bank}
 use Rattle.image.proofs.good.is_good.Statement.{statement}
 use Rattle.image.proofs.good.is_good.Tie as tie
 
@@ -57,12 +55,9 @@ is-good-crc-requires c κs =
     let past3 = c .before .before in
     let past2 = past3 .before .before in
     let head = past2 .before .before .head-of .ensures .0 in (
-      ap (λ (b : Bank). b .offset) (epc-same _ _ head),
-      omega (
-        arith,
-        pc-inside _ _ head (not-fails (past2 .if2 .left) (past2 .before .is-good-header .ensures))
-            (not-fails (past3 .if3 .left) (past3 .before .is-good-banks .ensures)),
-      ),
+      epc-same _ _ head,
+      epc-inside _ _ head (not-fails (past2 .if2 .left) (past2 .before .is-good-header .ensures))
+          (not-fails (past3 .if3 .left) (past3 .before .is-good-banks .ensures)) (not-fails (c .if4 .left) (c .before .is-good-tag .ensures)),
     )
 
 returns-5 : tie.Need-returns-5
