@@ -33,6 +33,7 @@ part-sets l i vs h =
     ∙ ap (λ (t : List ℕ). take (length vs) t) (drop-at (take i l) (vs ++ drop (i + length vs) l) i (length-take-le i l (omega arith)))
     ∙ take-at vs (drop (i + length vs) l) (length vs) refl
 
+-- a part before the stores, and one behind them
 pub part-sets-before : (l : List ℕ) (i : ℕ) (vs : List ℕ) (j n : ℕ) → j + n ≤ i → part (sets l i vs) j n ≡ part l j n
 unfolding part
 part-sets-before l i vs j n h =
@@ -43,7 +44,7 @@ part-sets-before l i vs j n h =
 
 pub part-sets-behind : (l : List ℕ) (i : ℕ) (vs : List ℕ) (j n : ℕ) → i + length vs ≤ j → part (sets l i vs) j n ≡ part l j n
 unfolding part
-part-sets-behind l i vs j n h = ap (take n) (drop-sets-behind j l i vs h)
+part-sets-behind l i vs j n h = ap (λ (t : List ℕ). take n t) (drop-sets-behind j l i vs h)
 
 -- ---- pieces one behind the other
 

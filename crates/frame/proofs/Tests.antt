@@ -27,6 +27,18 @@ pub or-neither : (a b : Bool) → (a || b) ≡ false → (a ≡ false) × (b ≡
 or-neither true b h = (h, cc)
 or-neither false b h = (refl, h)
 
+pub or-first : (a b : Bool) → a ≡ true → (a || b) ≡ true
+or-first a b h = simp h
+
+pub or-second : (a b : Bool) → b ≡ true → (a || b) ≡ true
+or-second true b h = refl
+or-second false b h = h
+
+-- a proof by which of two tests holds
+pub or-cases {ℓ} : {C : Type ℓ} (a b : Bool) → (a || b) ≡ true → (a ≡ true → C) → (b ≡ true → C) → C
+or-cases true b h first second = first refl
+or-cases false b h first second = second h
+
 -- test k of a list of which every test holds
 pub all-at : (ts : List Bool) (k : ℕ) → all ts ≡ true → getD ts k true ≡ true
 unfolding all
