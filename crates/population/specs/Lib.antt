@@ -1,2 +1,4 @@
 pub mod Below
+pub mod Matching
 pub mod Places
+pub mod Selections

@@ -1,2 +1,4 @@
-// Up to sixteen tags, each with its place in one lent memory.
+// Up to sixteen tags, each with its place in one lent memory, and the selection that says which of them a command is for.
+pub mod matching;
 pub mod places;
+pub mod selection;
