@@ -1,4 +1,6 @@
 pub mod Below
+pub mod Executing
+pub mod Lowest
 pub mod Matching
 pub mod Places
 pub mod Selections

@@ -1,0 +1,55 @@
+-- Which tag is selected, and the lowest of them, test by test.
+use Prim.Native.Nat.{ℕ, _-_, _≤_, _<_}
+use borrow.Author.Tests.{eq-eqb, ne-eqb, lt-ltb, le-ltb}
+use mathlib.Core.Bool.{Bool, true, false}
+use mathlib.Core.List.{List}
+use mathlib.Core.Path.{_≡_, sym, subst, _∙_}
+use native.Mathlib.Omega.{arith}
+use Rattle.frame.proofs.Picks.{pick-true, pick-false}
+use Rattle.frame.specs.Bytes.{byte}
+use Rattle.population.proofs.Firsts.{NonePasses, first-cases}
+use Rattle.population.proofs.Populations.{cut, cut-is}
+use Rattle.population.specs.Lowest.{selectedImage, selected, selectedAt, firstTag, lowest}
+use Rattle.population.specs.Matching.{matches}
+use Rattle.population.specs.Places.{placeAt, inside}
+use Rattle.population.specs.declared.lowest.Lowest.{Lowest}
+use Rattle.population.specs.declared.lowest.Lowest.the-variants.{NoTag, Tag}
+use Rattle.population.specs.declared.places.Place.{Place}
+
+module _ (memory s : List ℕ) (place : Place) where
+  pub selected-outside : inside memory place ≡ false → false ≡ selected memory s place
+  unfolding selected
+  selected-outside h = simp h
+
+  -- the state b, read in the image as the code cuts it
+  module _ (h : inside memory place ≡ true) (b : ℕ) (state : b ≡ byte (cut memory place) 22) where
+    image-is : selected memory s place ≡ selectedImage s (cut memory place)
+    unfolding selected
+    image-is = simp (h, cut-is memory place)
+
+    pub selected-gone : (b ≡ 0 → ⊥) → false ≡ selected memory s place
+    unfolding selectedImage
+    selected-gone n = sym (image-is ∙ (simp (← state, ne-eqb b 0 n)))
+
+    pub selected-present : b ≡ 0 → (r : Bool) → r ≡ matches (cut memory place) s → r ≡ selected memory s place
+    unfolding selectedImage
+    selected-present z r e = e ∙ sym (image-is ∙ (simp (← state, eq-eqb b 0 z)))
+
+module _ (memory : List ℕ) (tags : ℕ) (places : List Place) (s : List ℕ) (start : ℕ) where
+  pub lowest-many : 16 < tags → NoTag ≡ lowest memory tags places s start
+  unfolding lowest
+  lowest-many h = simp (lt-ltb 16 tags h, pick-true)
+
+  pub lowest-few : tags ≤ 16 → lowest memory tags places s start ≡ firstTag (selectedAt memory s places) places start (tags - start)
+  unfolding lowest
+  lowest-few h = simp (le-ltb 16 tags h, pick-false)
+
+  pub lowest-cases : tags ≤ 16 → (P : Lowest → Type 0)
+      → (NonePasses (selectedAt memory s places) start tags → P NoTag)
+      → ((n : ℕ) → start ≤ n → n < tags → selectedAt memory s places n ≡ true → NonePasses (selectedAt memory s places) start n
+      → P (Tag n (placeAt places n)))
+      → P (lowest memory tags places s start)
+  lowest-cases few P none one =
+      subst P (sym (lowest-few few))
+      (first-cases (selectedAt memory s places) places P start (tags - start) (λ h. none (λ j l m. h j l (omega arith)))
+      (λ n l m passes h. one n l (omega arith) passes h))
