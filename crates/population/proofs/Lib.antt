@@ -1,8 +1,17 @@
 pub mod Below
+pub mod Claimed
 pub mod Executes
 pub mod Firsts
+pub mod GoodPopulations
+pub mod Images
+pub mod LowestTable
+pub mod MatchTable
 pub mod Matches
+pub mod OnePlace
+pub mod Overlaps
+pub mod PopulationTable
 pub mod Populations
 pub mod Rising
+pub mod SelectTable
 pub mod Selects
 pub mod Takings

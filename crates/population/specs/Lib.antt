@@ -1,4 +1,5 @@
 pub mod Below
+pub mod Claims
 pub mod Executing
 pub mod Lowest
 pub mod Matching
