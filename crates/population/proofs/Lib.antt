@@ -1,4 +1,5 @@
 pub mod Below
+pub mod Bits
 pub mod Claimed
 pub mod Executes
 pub mod Firsts

@@ -11,18 +11,8 @@ use Rattle.frame.specs.Bytes.{byte, number, double}
 use Rattle.image.proofs.Places.{bank-cases}
 use Rattle.image.specs.Image.{view, bankAt, bankOf}
 use Rattle.image.specs.declared.header.Bank.{Bank}
-use Rattle.population.specs.Matching.{bitAt, sameBit, sameBits, maskFound, matches}
+use Rattle.population.specs.Matching.{sameBits, maskFound, matches}
 use Rattle.population.specs.Selections.{actionOf, maskBank, maskPointer, maskBits}
-
--- a bit of the image against one of the mask
-module _ (image : List ℕ) (at : ℕ) (s : List ℕ) (k a b : ℕ) (first : a ≡ bitAt image (at + k)) (second : b ≡ bitAt s (56 + k)) where
-  pub bits-same : a ≡ b → sameBit image at s k ≡ true
-  unfolding sameBit
-  bits-same h = simp (← first, ← second, eq-eqb a b h)
-
-  pub bits-differ : (a ≡ b → ⊥) → sameBit image at s k ≡ false
-  unfolding sameBit
-  bits-differ h = simp (← first, ← second, ne-eqb a b h)
 
 -- a bank's words and its offset, as they stand in the header
 pub record HeaderBank (image : List ℕ) (bank : ℕ) (b : Bank) : Type 0 where

@@ -1,5 +1,5 @@
 -- P5: "An empty mask matches every tag; one that runs past the end of the bank does not; the turn comes last."
-use Prim.Native.Nat.{ℕ, _+_, _-_, _*_, _/_, _%_, _^_}
+use Prim.Native.Nat.{ℕ, zero, suc, _+_, _-_, _*_, _/_, _%_, _^_}
 use mathlib.Core.Bool.{Bool, true, false, not}
 use mathlib.Core.List.{List}
 use lib.Dec.{eqb, ltb}
@@ -13,6 +13,11 @@ use Rattle.population.specs.Selections.{actionOf, maskBank, maskPointer,
 -- bit j of the bytes, the highest bit of a byte first
 unfoldable pub bitAt : List ℕ → ℕ → ℕ
 bitAt bytes j = byte bytes (j / 8) / 2 ^ (7 - j % 8) % 2
+
+-- the n bits from bit j on, as a number
+unfoldable pub bitsFrom : List ℕ → ℕ → ℕ → ℕ
+bitsFrom bytes j zero = 0
+bitsFrom bytes j (suc n) = 2 * bitsFrom bytes j n + bitAt bytes (j + n)
 
 -- bit k of the mask, which begins with byte 7, against bit `at` + k of the image
 unfoldable pub sameBit : List ℕ → ℕ → List ℕ → ℕ → Bool

@@ -2,32 +2,49 @@
 use frame::bytes::byte_at;
 use frame::bytes::double_at;
 use frame::bytes::number_at;
+use frame::bytes::wide;
 ghost use mathlib.Core.Path.{_≡_};
-ghost use Prim.Native.Nat.{_≤_};
-ghost use Rattle.population.specs.Matching.{bitAt, sameBits, maskFound, matches};
+ghost use Prim.Native.Nat.{_*_, _≤_};
+ghost use Rattle.population.specs.Matching.{bitsFrom, sameBits, maskFound, matches};
 
-// Bit j of the bytes, the highest bit of a byte first; what lies behind the end counts as 0.
-fn bit_at(bytes: &[u8], j: usize) -> u8
-    ensures { λ r. ⌜ r ≡ bitAt (now (bytes .entry)) j ⌝ }
+// The n bits from bit j on, as a number, the highest bit of a byte first; what lies behind the end counts as 0. They stand in two bytes.
+fn bits_from(bytes: &[u8], j: usize, n: usize) -> usize
+    requires { ⌜ n ≤ 8 ⌝ }
+    ensures { λ r. ⌜ r ≡ bitsFrom (now (bytes .entry)) j n ⌝ }
 {
-    let shift = 7 - j % 8;
-    (byte_at(bytes, j / 8) >> shift as u8) % 2
+    let i = j / 8;
+    let two = wide(byte_at(bytes, i)) * 256 + wide(byte_at(bytes, i + 1));
+    let eight = (two >> (8 - j % 8)) % 256;
+    eight >> (8 - n)
 }
 
-// The n bits of the image from bit `at` on are the first n of the mask, which begins with byte 7. Tags of one kind differ most in their
-// last bits, so these are looked at first.
-fn is_same_bits(image: &[u8], at: usize, selection: &[u8], n: usize) -> bool
-    requires { ⌜ (at ≤ 8589934592) × (n ≤ 256) ⌝ }
-    ensures { λ r. ⌜ r ≡ sameBits (now (image .entry)) at (now (selection .entry)) n ⌝ }
+// The bits of `count` whole bytes of the mask, which begins with byte 7, are those of the image from bit `at` on. Tags of one kind differ
+// most in their last bits, so these are looked at first.
+fn is_same_bytes(image: &[u8], at: usize, selection: &[u8], count: usize) -> bool
+    requires { ⌜ (at ≤ 8589934592) × (count ≤ 32) ⌝ }
+    ensures { λ r. ⌜ r ≡ sameBits (now (image .entry)) at (now (selection .entry)) (8 * count) ⌝ }
 {
-    let mut k = n;
+    let mut k = count;
     while 0 < k {
         k -= 1;
-        if bit_at(image, at + k) != bit_at(selection, 56 + k) {
+        if bits_from(image, at + 8 * k, 8) != bits_from(selection, 56 + 8 * k, 8) {
             return false;
         }
     }
     true
+}
+
+// The same of n bits: those of the last byte that are not spare, then the whole bytes before it.
+fn is_same_bits(image: &[u8], at: usize, selection: &[u8], n: usize) -> bool
+    requires { ⌜ (at ≤ 8589934592) × (n ≤ 256) ⌝ }
+    ensures { λ r. ⌜ r ≡ sameBits (now (image .entry)) at (now (selection .entry)) n ⌝ }
+{
+    let whole = n / 8;
+    let rest = n % 8;
+    if bits_from(image, at + 8 * whole, rest) != bits_from(selection, 56 + 8 * whole, rest) {
+        return false;
+    }
+    is_same_bytes(image, at, selection, whole)
 }
 
 // The mask is found where the selection says, before the match is turned round.

@@ -1,72 +1,47 @@
-use Prim.Native.Nat.{_≤_}
 use borrow.Author.Needs.{needs}
-use mathlib.Core.Path.{_≡_, refl, sym, _∙_}
-use native.Mathlib.Omega.{arith}
-use Rattle.population.proofs.Below.{none-below, below-holds, below-fails}
-use Rattle.population.proofs.Matches.{bits-same, bits-differ}
-use Rattle.population.specs.Below.{allBelow}
-use Rattle.population.specs.Matching.{sameBit, sameBits}
+use Rattle.population.proofs.Bits.{rest-differs, rest-same}
 use Rattle.population.proofs.matching.is_same_bits.Statement.{statement}
 use Rattle.population.proofs.matching.is_same_bits.Tie as tie
 
-abbrev Inv-loop : tie.InvT-loop
-Inv-loop image at selection n k₀ k = (k ≤ n) × (sameBits image at selection n ≡ allBelow (sameBit image at selection) k)
+mul-bits-from : tie.Need-mul-bits-from
+mul-bits-from c = search needs
 
-abbrev μ-loop : tie.MeasureT-loop
-μ-loop image at selection n k₀ k = k
+add-bits-from : tie.Need-add-bits-from
+add-bits-from c = search needs
 
-loop-holds : tie.Need-loop-holds Inv-loop μ-loop
-unfolding sameBits
-loop-holds c = (omega arith, refl)
+bits-from-requires : tie.Need-bits-from-requires
+bits-from-requires c κs = search needs
 
-sub-k : tie.Need-sub-k Inv-loop μ-loop
-sub-k c = omega arith
+mul-bits-from-2 : tie.Need-mul-bits-from-2
+mul-bits-from-2 c = search needs
 
-add-bit-at : tie.Need-add-bit-at Inv-loop μ-loop
-add-bit-at c = omega arith
+add-bits-from-2 : tie.Need-add-bits-from-2
+add-bits-from-2 c = search needs
 
-bit-at-requires : tie.Need-bit-at-requires Inv-loop μ-loop
-bit-at-requires c κs = search needs
+bits-from-requires-2 : tie.Need-bits-from-requires-2
+bits-from-requires-2 c κs = search needs
 
-add-bit-at-2 : tie.Need-add-bit-at-2 Inv-loop μ-loop
-add-bit-at-2 c = omega arith
+returns : tie.Need-returns
+returns c = rest-differs _ _ _ _ _ _ (c .before .before .bits-from .ensures) (c .before .bits-from2 .ensures) (c .if1 .taken)
 
-bit-at-requires-2 : tie.Need-bit-at-requires-2 Inv-loop μ-loop
-bit-at-requires-2 c κs = search needs
+is-same-bytes-requires : tie.Need-is-same-bytes-requires
+is-same-bytes-requires c κs = search needs
 
-returns : tie.Need-returns Inv-loop μ-loop
-returns c =
-    let turn = c .before .before .before in
-    sym (turn .before .loop .inv .1
-    ∙ below-fails _ _ (turn .loop-test .taken) (bits-differ _ _ _ _ _ _ (c .before .before .bit-at .ensures) (c .before .bit-at2 .ensures) (c .if1 .taken)))
-
-loop-less : tie.Need-loop-less Inv-loop μ-loop
-loop-less c = omega arith
-
-loop-again : tie.Need-loop-again Inv-loop μ-loop
-loop-again c =
-    let turn = c .before .before .before in (
-      omega arith,
-      turn .before .loop .inv .1
-          ∙ below-holds _ _ (turn .loop-test .taken) (bits-same _ _ _ _ _ _ (c .before .before .bit-at .ensures) (c .before .bit-at2 .ensures) (c .if1 .left)),
-    )
-
-returns-2 : tie.Need-returns-2 Inv-loop μ-loop
-returns-2 c = sym (c .before .loop .inv .1 ∙ none-below _ _ (omega arith))
+returns-2 : tie.Need-returns-2
+returns-2 c =
+    let tested = c .before in
+    rest-same _ _ _ _ _ _ (tested .before .before .bits-from .ensures) (tested .before .bits-from2 .ensures) (tested .if1 .left) _ (c .is-same-bytes .ensures)
 
 pub is-same-bits-spec : {M : Type 1} → statement M
 is-same-bits-spec =
     tie.close
     (tie.spec
-    Inv-loop
-    μ-loop
-    loop-holds
-    sub-k
-    add-bit-at
-    bit-at-requires
-    add-bit-at-2
-    bit-at-requires-2
+    mul-bits-from
+    add-bits-from
+    bits-from-requires
+    mul-bits-from-2
+    add-bits-from-2
+    bits-from-requires-2
     returns
-    loop-less
-    loop-again
+    is-same-bytes-requires
     returns-2)
