@@ -3,7 +3,7 @@ use Prim.Native.Nat.{ℕ, zero, suc, _+_, _-_, _<_}
 use borrow.Author.Tests.{eqb-true, eqb-false}
 use lib.Dec.{eqb}
 use mathlib.Core.Bool.{Bool, true, false, _&&_, true≢false}
-use mathlib.Core.Path.{_≡_, refl, ap, ap₂, sym, _∙_}
+use mathlib.Core.Path.{_≡_, refl, ap, sym, _∙_}
 use native.Mathlib.Omega.{arith}
 use Rattle.frame.proofs.Tests.{and-left, and-right, and-both, either}
 use Rattle.population.specs.Below.{allBelow}
@@ -56,10 +56,3 @@ below-not test n k l t =
     either (allBelow test n)
     (λ h. let z : true ≡ false = sym (below-each test n h k l) ∙ t in absurd (true≢false z))
     (λ h. h)
-
--- two tests that agree
-pub below-same : (test other : ℕ → Bool) (n : ℕ) → ((k : ℕ) → k < n → test k ≡ other k) → allBelow test n ≡ allBelow other n
-unfolding allBelow
-below-same test other zero h = refl
-below-same test other (suc n) h =
-    ap₂ (λ (a b : Bool). a && b) (h n (omega arith)) (below-same test other n (λ k l. h k (omega arith)))

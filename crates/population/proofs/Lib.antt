@@ -16,3 +16,4 @@ pub mod Rising
 pub mod SelectTable
 pub mod Selects
 pub mod Takings
+pub mod TwoMemories

@@ -1,13 +1,14 @@
 -- Which tag is selected, and the lowest of them, test by test.
 use Prim.Native.Nat.{ℕ, _-_, _≤_, _<_}
 use borrow.Author.Tests.{eq-eqb, ne-eqb, lt-ltb, le-ltb}
+use lib.Dec.{ltb}
 use mathlib.Core.Bool.{Bool, true, false}
 use mathlib.Core.List.{List}
-use mathlib.Core.Path.{_≡_, sym, subst, _∙_}
+use mathlib.Core.Path.{_≡_, ap, sym, subst, _∙_}
 use native.Mathlib.Omega.{arith}
 use Rattle.frame.proofs.Picks.{pick-true, pick-false}
-use Rattle.frame.specs.Bytes.{byte}
-use Rattle.population.proofs.Firsts.{NonePasses, first-cases}
+use Rattle.frame.specs.Bytes.{pick, byte}
+use Rattle.population.proofs.Firsts.{NonePasses, first-cases, first-same}
 use Rattle.population.proofs.Populations.{cut, cut-is}
 use Rattle.population.specs.Lowest.{selectedImage, selected, selectedAt, firstTag, lowest}
 use Rattle.population.specs.Matching.{matches}
@@ -53,3 +54,12 @@ module _ (memory : List ℕ) (tags : ℕ) (places : List Place) (s : List ℕ) (
       subst P (sym (lowest-few few))
       (first-cases (selectedAt memory s places) places P start (tags - start) (λ h. none (λ j l m. h j l (omega arith)))
       (λ n l m passes h. one n l (omega arith) passes h))
+
+-- two memories in which the same tags are selected
+pub lowest-same : (m n : List ℕ) (tags : ℕ) (places : List Place) (s : List ℕ) (start : ℕ)
+    → ((i : ℕ) → start ≤ i → i < tags → selectedAt m s places i ≡ selectedAt n s places i)
+    → lowest m tags places s start ≡ lowest n tags places s start
+unfolding lowest
+lowest-same m n tags places s start h =
+    ap (λ (r : Lowest). pick (ltb 16 tags) NoTag r)
+    (first-same (selectedAt m s places) (selectedAt n s places) places start (tags - start) (λ i l k. h i l (omega arith)))

@@ -1,6 +1,6 @@
 -- The tests of what Set Select takes, as the code comes upon them.
-use Prim.Native.Nat.{ℕ, _+_, _/_, _%_}
-use borrow.Author.Tests.{eq-eqb, ne-eqb, le-leb, lt-leb}
+use Prim.Native.Nat.{ℕ, _+_, _/_, _%_, _≤_, _<_}
+use borrow.Author.Tests.{eqb-true, eq-eqb, ne-eqb, le-leb, lt-leb}
 use lib.Dec.{eqb}
 use lib.ListN.{length}
 use mathlib.Core.Bool.{Bool, true, false, and-true, and-false}
@@ -8,6 +8,7 @@ use mathlib.Core.List.{List}
 use mathlib.Core.Path.{_≡_}
 use native.Mathlib.Omega.{arith}
 use Rattle.frame.proofs.Picks.{pick-true, pick-false}
+use Rattle.frame.proofs.Tests.{all-at}
 use Rattle.frame.specs.Bytes.{all, byte}
 use Rattle.population.specs.Selections.{targetOf, actionOf, maskBank, maskBits, truncateOf, maskBytes, knownAction, taken, goodSelection}
 
@@ -55,3 +56,10 @@ module _ (s : List ℕ) where
   pub taken-decides : (length s ≡ 0 → ⊥) → (r : Bool) → r ≡ taken s → r ≡ goodSelection s
   unfolding goodSelection
   taken-decides h r e = simp (ne-eqb (length s) 0 h, pick-false) e
+
+  -- a mask length of one byte, so that at most 39 bytes are taken
+  pub taken-short : byte s 5 < 256 → taken s ≡ true → length s ≤ 39
+  unfolding taken maskBytes maskBits
+  taken-short small h =
+      let whole : length s ≡ 7 + (byte s 5 + 7) / 8 = eqb-true _ _ (all-at _ 4 h) in
+      omega arith

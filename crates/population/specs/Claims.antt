@@ -38,7 +38,7 @@ imageOf memory p = part memory (p .from) (p .size)
 pub record PopulationRules (memory : List ℕ) (tags : ℕ) (places : List Place) : Type 0 where
   -- "up to 16 tags"
   pub up-to-16 : tags ≤ 16
-  -- "places that .. leave the memory": a sum that would wrap in 32 bits leaves it too
+  -- "places that .. leave the memory": the sum is the true one, also where it has more than 32 bits
   pub inside-the-memory : (i : ℕ) → i < tags → placeOfTag places i .from + placeOfTag places i .size ≤ length memory
   -- "places that overlap": no byte is in two of them
   pub no-overlap : (i j : ℕ) → i < tags → j < tags → i ≢ j → (k : ℕ) → Holds (placeOfTag places i) k → Holds (placeOfTag places j) k → ⊥
