@@ -24,19 +24,19 @@ record Fields (b : ℕ) : Type 0 where
   action : knownAction (b / 4 % 8) ≡ true
   bank : leb 1 (b % 4) ≡ true
 
-is : (n : ℕ) → Fields n → (b : ℕ) → eqb b n ≡ true → Fields b
-is n f b e = subst Fields (sym (eqb-true b n e)) f
+fields-at : (n : ℕ) → Fields n → (b : ℕ) → eqb b n ≡ true → Fields b
+fields-at n f b e = subst Fields (sym (eqb-true b n e)) f
 
 listed-fields : (b : ℕ) → listed b ≡ true → Fields b
 unfolding firstOf
 listed-fields b =
     let P : Bool → Type 0 = λ (v : Bool). v ≡ true → Fields b in
-    by-test P (eqb b 0x01) (λ e _. is 0x01 record { target = refl; action = refl; bank = refl } b e)
-    (λ _. by-test P (eqb b 0x02) (λ e _. is 0x02 record { target = refl; action = refl; bank = refl } b e)
-    (λ _. by-test P (eqb b 0x03) (λ e _. is 0x03 record { target = refl; action = refl; bank = refl } b e)
-    (λ _. by-test P (eqb b 0x11) (λ e _. is 0x11 record { target = refl; action = refl; bank = refl } b e)
-    (λ _. by-test P (eqb b 0x12) (λ e _. is 0x12 record { target = refl; action = refl; bank = refl } b e)
-    (λ _. by-test P (eqb b 0x13) (λ e _. is 0x13 record { target = refl; action = refl; bank = refl } b e)
+    by-test P (eqb b 0x01) (λ e _. fields-at 0x01 record { target = refl; action = refl; bank = refl } b e)
+    (λ _. by-test P (eqb b 0x02) (λ e _. fields-at 0x02 record { target = refl; action = refl; bank = refl } b e)
+    (λ _. by-test P (eqb b 0x03) (λ e _. fields-at 0x03 record { target = refl; action = refl; bank = refl } b e)
+    (λ _. by-test P (eqb b 0x11) (λ e _. fields-at 0x11 record { target = refl; action = refl; bank = refl } b e)
+    (λ _. by-test P (eqb b 0x12) (λ e _. fields-at 0x12 record { target = refl; action = refl; bank = refl } b e)
+    (λ _. by-test P (eqb b 0x13) (λ e _. fields-at 0x13 record { target = refl; action = refl; bank = refl } b e)
     (λ _ h. absurd (true≢false (sym h))))))))
 
 -- a SelParam with these fields is listed: computed for all 32 whose target is 000
