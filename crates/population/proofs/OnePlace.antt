@@ -1,5 +1,6 @@
 -- A command at one place changes no byte outside it.
 use Prim.Native.Nat.{ℕ}
+use lib.Dec.{eqb}
 use lib.ListN.{length}
 use lib.Seq.{length-sets}
 use mathlib.Core.Bool.{true, false, true≢false}
@@ -12,8 +13,9 @@ use Rattle.frame.proofs.Copies.{there-reaches}
 use Rattle.frame.proofs.Picks.{pick-true, pick-false, by-test}
 use Rattle.frame.proofs.Tests.{either}
 use Rattle.frame.specs.Bytes.{byte}
-use Rattle.tag.specs.Answers.{changed}
-use Rattle.tag.specs.Commands.{actOf}
+use Rattle.image.specs.Image.{withCrc}
+use Rattle.tag.specs.Answers.{crcKept, changed}
+use Rattle.tag.specs.Commands.{bankIn, actOf}
 use Rattle.tag.specs.declared.commands.Act.{Act}
 use Rattle.tag.specs.declared.commands.Act.the-variants.{PlainError, TagError, Notify, Give, Store, Set}
 use Rattle.population.proofs.Executes.{inside-there, image-length}
@@ -27,12 +29,13 @@ use Rattle.population.specs.declared.places.Place.{Place}
 -- ---- a command keeps the length of its image
 
 length-changed : (image p : List ℕ) (act : Act) → length (changed image p act) ≡ length image
-unfolding changed
+unfolding changed crcKept withCrc
 length-changed image p (PlainError e) = refl
 length-changed image p (TagError e) = refl
 length-changed image p Notify = refl
 length-changed image p (Give at n) = refl
-length-changed image p (Store at) = simp length-sets
+length-changed image p (Store at) =
+    by-test (λ (l : List ℕ). length l ≡ length image) (eqb (bankIn p) 1) (λ _. simp length-sets) (λ _. simp length-sets)
 length-changed image p (Set code at count value) = simp length-sets
 
 pub length-after : (image output : List ℕ) (code : ℕ) (p : List ℕ) → length (imageAfter image output code p) ≡ length image
