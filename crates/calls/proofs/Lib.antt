@@ -1,0 +1,5 @@
+pub mod Absents
+pub mod Doing
+pub mod Jobs
+pub mod Lowests
+pub mod Steps
