@@ -30,17 +30,17 @@ use Rattle.image.specs.Image.{good}
 use Rattle.tag.specs.declared.commands.Act.{Act}
 
 -- all counts together: an answer or a drop adds one at most
-total : Tally → ℕ
+pub total : Tally → ℕ
 total t = sum (countsOf t)
 
-counted-most : (t : Tally) (act : Act) → total (counted act t) ≤ total t + 1
+pub counted-most : (t : Tally) (act : Act) → total (counted act t) ≤ total t + 1
 unfolding total counted sum
 counted-most t act =
     by-test (λ (u : Tally). sum (countsOf u) ≤ sum (countsOf t) + 1) (Answers.isError act)
     (λ h. omega (arith, raised-most (t .error)))
     (λ h. omega (arith, raised-most (t .good)))
 
-dropped-most : (t : Tally) (r : Reason) → total (withDropped r t) ≤ total t + 1
+pub dropped-most : (t : Tally) (r : Reason) → total (withDropped r t) ≤ total t + 1
 unfolding total withDropped sum
 dropped-most t NoHeader = omega (arith, raised-most (t .header))
 dropped-most t WrongType = omega (arith, raised-most (t .kind))

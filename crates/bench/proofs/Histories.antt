@@ -38,7 +38,7 @@ withStep t x =
     }
 
 -- the choice of the count that an answer raises
-raises : (t : Tally) (error : Bool) → full t ≡ false
+pub raises : (t : Tally) (error : Bool) → full t ≡ false
     → pick error (withError t) (withGood t)
     ≡ tallyOf (t .good + pick (not error) 1 0) (t .error + pick error 1 0) (t .header + 0) (t .kind + 0) (t .long + 0) (t .check + 0) (t .end + 0)
 unfolding pick

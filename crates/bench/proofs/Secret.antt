@@ -44,9 +44,9 @@ drop-sets-from n l i vs h =
     ap (λ (m : ℕ). drop n (sets l m vs)) (sym k) ∙ drop-sets n l (i - n) vs
 
 -- one image of the pair in the course of a run, with its password bytes
-record Course (a x : List ℕ) : Type 0 where
-  kept : Kept a x
-  bytes : part x (passwordsAt a) 8 ≡ part a (passwordsAt a) 8
+pub record Course (a x : List ℕ) : Type 0 where
+  pub kept : Kept a x
+  pub bytes : part x (passwordsAt a) 8 ≡ part a (passwordsAt a) 8
 
 -- what a store behind the passwords spares: where they stand, what they are, and the locks
 record Spared (a x : List ℕ) : Type 0 where
@@ -114,23 +114,23 @@ elsewhere-written p x y e at vs far behind bank word place within =
 
 -- ---- the two images together
 
-record Pair (a b x y : List ℕ) : Type 0 where
-  first : Course a x
-  second : Course b y
-  elsewhere : EqualElsewhere (passwordsAt a) x y
+pub record Pair (a b x y : List ℕ) : Type 0 where
+  pub first : Course a x
+  pub second : Course b y
+  pub elsewhere : EqualElsewhere (passwordsAt a) x y
 
 module _ (a b x y : List ℕ) (t : Pair a b x y) where
-  gx : Good (view x)
+  pub gx : Good (view x)
   gx = good-facts x (t .first .kept .image-good)
 
   gy : Good (view y)
   gy = good-facts y (t .second .kept .image-good)
 
-  sight : view x ≡ view y
+  pub sight : view x ≡ view y
   sight = same-view (passwordsAt a) x y (t .elsewhere) (t .first .kept .place) gx gy
 
   -- an act that touches no password is answered alike
-  same-answer : (act : Act) → Public (view x) act → answer x act ≡ answer y act
+  pub same-answer : (act : Act) → Public (view x) act → answer x act ≡ answer y act
   unfolding answer passwordsAt
   same-answer (PlainError e) p = refl
   same-answer (TagError e) p = ap (λ (l : List ℕ). frameOf 0x01 0xFF (e ∷ l)) (same-tail (passwordsAt a) x y (t .elsewhere) (t .first .kept .place) gx gy)
@@ -147,7 +147,7 @@ module _ (a b x y : List ℕ) (t : Pair a b x y) where
   same-answer (Set code at count value) p = absurd p
 
   -- and leaves the pair a pair
-  pair-after : (q : List ℕ) (act : Act) → Public (view x) act → good (changed x q act) ≡ true → good (changed y q act) ≡ true
+  pub pair-after : (q : List ℕ) (act : Act) → Public (view x) act → good (changed x q act) ≡ true → good (changed y q act) ≡ true
       → Pair a b (changed x q act) (changed y q act)
   unfolding changed passwordsAt view bankAt
   pair-after q (PlainError e) p hx hy = t
@@ -244,7 +244,7 @@ module _ (a b : List ℕ) (ha : Hidden a) (hb : Hidden b) (s : State) (j : List 
 
 -- ---- the run
 
-none-append : (a b : List ℕ) (xs ys : List Command) → noneCarries a b (xs ++ ys) ≡ true → (noneCarries a b xs ≡ true) × (noneCarries a b ys ≡ true)
+pub none-append : (a b : List ℕ) (xs ys : List Command) → noneCarries a b (xs ++ ys) ≡ true → (noneCarries a b xs ≡ true) × (noneCarries a b ys ≡ true)
 unfolding noneCarries all
 none-append a b [] ys h = (refl, h)
 none-append a b (x ∷ xs) ys h =

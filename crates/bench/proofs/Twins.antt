@@ -19,7 +19,7 @@ module _ (at : ℕ) (x y : List ℕ) (e : EqualElsewhere at x y) where
   unfolding byte
   byte-before i h = sym (getD-take at x i 0 h) ∙ ap (λ (l : List ℕ). getD l i 0) (e .before) ∙ getD-take at y i 0 h
 
-  byte-behind : (i : ℕ) → at + 8 ≤ i → byte x i ≡ byte y i
+  pub byte-behind : (i : ℕ) → at + 8 ≤ i → byte x i ≡ byte y i
   unfolding byte
   byte-behind i h =
       let k : at + 8 + (i - (at + 8)) ≡ i = omega arith in

@@ -1,5 +1,9 @@
 pub mod Absents
+pub mod Choosing
+pub mod Claimed
 pub mod Doing
+pub mod Hiding
 pub mod Jobs
 pub mod Lowests
+pub mod Secrets
 pub mod Steps

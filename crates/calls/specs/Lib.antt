@@ -1,2 +1,4 @@
 pub mod Calls
+pub mod Claims
 pub mod Machine
+pub mod Secrecy

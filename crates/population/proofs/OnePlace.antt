@@ -28,7 +28,7 @@ use Rattle.population.specs.declared.places.Place.{Place}
 
 -- ---- a command keeps the length of its image
 
-length-changed : (image p : List ℕ) (act : Act) → length (changed image p act) ≡ length image
+pub length-changed : (image p : List ℕ) (act : Act) → length (changed image p act) ≡ length image
 unfolding changed crcKept withCrc
 length-changed image p (PlainError e) = refl
 length-changed image p (TagError e) = refl

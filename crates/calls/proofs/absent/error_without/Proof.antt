@@ -1,10 +1,7 @@
 -- `error_without` meets its contract: a tag out of the field gives the plain error for no tag.
 use Prim.Native.Nat.{ℕ}
 use Rattle.calls.proofs.Absents.{told-error, no-other}
-use Rattle.calls.proofs.absent.error_without.Lts as lts
-use Rattle.calls.proofs.absent.error_without.Reads as reads
 use Rattle.frame.specs.Bytes.{byte}
-use Rattle.tag.proofs.acts.act_of.Reads as act-of-reads
 use borrow.Author.Needs.{needs}
 use mathlib.Core.Path.{_≡_}
 use native.Mathlib.Omega.{arith}

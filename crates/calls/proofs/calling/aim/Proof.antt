@@ -1,10 +1,5 @@
 -- `aim` meets its contract: the command is carried out at its place, and its answer counted.
 use Rattle.calls.proofs.Doing.{aims-good, aims-error, never-refused}
-use Rattle.calls.proofs.calling.aim.Lts as lts
-use Rattle.calls.proofs.calling.aim.Reads as reads
-use Rattle.population.proofs.executing.execute_at.Reads as execute-at-reads
-use Rattle.reader.proofs.tally.Tally.with_error.Reads as with-error-reads
-use Rattle.reader.proofs.tally.Tally.with_good.Reads as with-good-reads
 use borrow.Author.Needs.{needs}
 use Rattle.calls.proofs.calling.aim.Statement.{statement}
 use Rattle.calls.proofs.calling.aim.Tie as tie

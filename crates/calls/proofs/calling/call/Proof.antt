@@ -1,9 +1,5 @@
 -- `call` meets its contract: what is decided and done is the machine's step.
 use Rattle.calls.proofs.Steps.{decided-doable, called}
-use Rattle.calls.proofs.calling.call.Lts as lts
-use Rattle.calls.proofs.calling.call.Reads as reads
-use Rattle.calls.proofs.calling.carry_out.Reads as carry-out-reads
-use Rattle.calls.proofs.deciding.decide.Reads as decide-reads
 use borrow.Author.Needs.{needs}
 use Rattle.calls.proofs.calling.call.Statement.{statement}
 use Rattle.calls.proofs.calling.call.Tie as tie

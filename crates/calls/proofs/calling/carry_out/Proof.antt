@@ -1,12 +1,5 @@
 -- `carry_out` meets its contract: each job is done as the machine does it.
 use Rattle.calls.proofs.Doing.{can-drop, can-select, can-miss, can-aim, cut-parameters, cut-at, does-stay, does-drop, does-select, does-miss, does-aim}
-use Rattle.calls.proofs.calling.aim.Reads as aim-reads
-use Rattle.calls.proofs.calling.carry_out.Lts as lts
-use Rattle.calls.proofs.calling.carry_out.Reads as reads
-use Rattle.calls.proofs.calling.miss.Reads as miss-reads
-use Rattle.calls.proofs.calling.next_after.Reads as next-after-reads
-use Rattle.calls.proofs.calling.select.Reads as select-reads
-use Rattle.reader.proofs.tally.Tally.with_dropped.Reads as with-dropped-reads
 use borrow.Author.Needs.{needs}
 use native.Mathlib.Omega.{arith}
 use Rattle.calls.proofs.calling.carry_out.Statement.{statement}

@@ -1,9 +1,5 @@
 -- `miss` meets its contract: the plain error, counted.
 use Rattle.calls.proofs.Doing.{tells}
-use Rattle.calls.proofs.calling.miss.Lts as lts
-use Rattle.calls.proofs.calling.miss.Reads as reads
-use Rattle.calls.proofs.calling.put_byte.Reads as put-byte-reads
-use Rattle.reader.proofs.tally.Tally.with_error.Reads as with-error-reads
 use borrow.Author.Needs.{needs}
 use Rattle.calls.proofs.calling.miss.Statement.{statement}
 use Rattle.calls.proofs.calling.miss.Tie as tie

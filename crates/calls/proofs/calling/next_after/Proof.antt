@@ -1,6 +1,4 @@
 -- `next_after` meets its contract, case by case.
-use Rattle.calls.proofs.calling.next_after.Lts as lts
-use Rattle.calls.proofs.calling.next_after.Reads as reads
 use Rattle.frame.proofs.Picks.{pick-true, pick-false}
 use borrow.Author.Needs.{needs}
 use borrow.Author.Tests.{eq-eqb, ne-eqb}

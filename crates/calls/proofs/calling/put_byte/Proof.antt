@@ -1,8 +1,5 @@
 -- `put_byte` meets its contract: one byte, and the frame round it.
 use Rattle.calls.proofs.Doing.{byte-closed}
-use Rattle.calls.proofs.calling.put_byte.Lts as lts
-use Rattle.calls.proofs.calling.put_byte.Reads as reads
-use Rattle.frame.proofs.closing.close.Reads as close-reads
 use borrow.Author.Needs.{needs}
 use lib.ListN.{length-set}
 use native.Mathlib.Omega.{arith}

@@ -1,14 +1,6 @@
 -- `select` meets its contract: the parameters are kept where they are taken, and else refused.
 use Rattle.calls.proofs.Doing.{not-taken, is-taken}
-use Rattle.calls.proofs.calling.miss.Reads as miss-reads
-use Rattle.calls.proofs.calling.put_byte.Reads as put-byte-reads
-use Rattle.calls.proofs.calling.select.Lts as lts
-use Rattle.calls.proofs.calling.select.Reads as reads
 use Rattle.frame.proofs.Tests.{holds, fails, not-holds, not-fails}
-use Rattle.frame.proofs.bytes.byte_at.Reads as byte-at-reads
-use Rattle.frame.proofs.copying.copy.Reads as copy-reads
-use Rattle.population.proofs.selection.is_taken.Reads as is-taken-reads
-use Rattle.reader.proofs.tally.Tally.with_good.Reads as with-good-reads
 use borrow.Author.Needs.{needs}
 use native.Mathlib.Omega.{arith}
 use Rattle.calls.proofs.calling.select.Statement.{statement}

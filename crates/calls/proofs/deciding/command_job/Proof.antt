@@ -1,9 +1,5 @@
 -- `command_job` meets its contract: Set Select, no tag, or the lowest one.
 use Rattle.calls.proofs.Jobs.{selects, misses, aims}
-use Rattle.calls.proofs.absent.error_without.Reads as error-without-reads
-use Rattle.calls.proofs.deciding.command_job.Lts as lts
-use Rattle.calls.proofs.deciding.command_job.Reads as reads
-use Rattle.population.proofs.lowest.find_lowest.Reads as find-lowest-reads
 use borrow.Author.Needs.{needs}
 use Rattle.calls.proofs.deciding.command_job.Statement.{statement}
 use Rattle.calls.proofs.deciding.command_job.Tie as tie

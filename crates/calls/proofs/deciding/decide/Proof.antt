@@ -1,13 +1,6 @@
 -- `decide` meets its contract: each early return is the test that refuses; then a tag is handed out, or the finding rules decide.
 use Rattle.calls.proofs.Jobs.{selection-judged, lowest-whole, job-whole, too-many-bad, past, bad-selection, bad-population, short, filled, hands-out, hands-none}
-use Rattle.calls.proofs.deciding.decide.Lts as lts
-use Rattle.calls.proofs.deciding.decide.Reads as reads
-use Rattle.calls.proofs.deciding.find_job.Reads as find-job-reads
 use Rattle.frame.proofs.Tests.{holds, fails, not-holds, not-fails}
-use Rattle.population.proofs.lowest.find_lowest.Reads as find-lowest-reads
-use Rattle.population.proofs.places.is_good_population.Reads as is-good-population-reads
-use Rattle.population.proofs.selection.is_good_selection.Reads as is-good-selection-reads
-use Rattle.reader.proofs.tally.Tally.is_full.Reads as is-full-reads
 use borrow.Author.Needs.{needs}
 use Rattle.calls.proofs.deciding.decide.Statement.{statement}
 use Rattle.calls.proofs.deciding.decide.Tie as tie

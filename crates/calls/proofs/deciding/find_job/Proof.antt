@@ -1,9 +1,5 @@
 -- `find_job` meets its contract, case by case.
 use Rattle.calls.proofs.Jobs.{found-is, frame-there, finds-end, finds-wait, finds-drop, finds-command}
-use Rattle.calls.proofs.deciding.command_job.Reads as command-job-reads
-use Rattle.calls.proofs.deciding.find_job.Lts as lts
-use Rattle.calls.proofs.deciding.find_job.Reads as reads
-use Rattle.frame.proofs.finding.find.Reads as find-reads
 use borrow.Author.Needs.{needs}
 use Rattle.calls.proofs.deciding.find_job.Statement.{statement}
 use Rattle.calls.proofs.deciding.find_job.Tie as tie
