@@ -1,4 +1,5 @@
 pub mod Absents
+pub mod Answering
 pub mod Choosing
 pub mod Claimed
 pub mod Doing

@@ -4,7 +4,7 @@ use borrow.Author.Tests.{ltb-false, le-ltb, not-false, eqb-true, eqb-false}
 use lib.Dec.{eqb, ltb}
 use lib.ListN.{length, drop, length-drop}
 use mathlib.Core.Bool.{true, false, not}
-use mathlib.Core.List.{List}
+use mathlib.Core.List.{List, []}
 use mathlib.Core.Logic.{_≢_}
 use mathlib.Core.Path.{_≡_, refl, ap, sym, subst, _∙_}
 use native.Mathlib.Omega.{arith}
@@ -13,13 +13,14 @@ use Rattle.bench.specs.declared.outcome.Outcome.{Outcome}
 use Rattle.bench.specs.declared.outcome.Outcome.the-variants.{AtEnd, Incomplete, PastEnd, BadImage, ShortOutput, FullTally}
 use Rattle.calls.proofs.Lowests.{TheLowest, the-lowest, lowest-inside, lowest-good}
 use Rattle.calls.specs.Calls.{Ready, Framed, Aimable, Doable}
-use Rattle.calls.specs.Machine.{State, call, Step, codeAt, parametersAt, errorWithout, aimJob, commandJob, foundJob, findJob, handOut, waiting, decide, carriedOut, inputOf, step}
+use Rattle.calls.specs.Machine.{State, Call, call, Step, codeAt, parametersAt, errorWithout, aimJob, commandJob, foundJob, findJob, handOut, waiting, decide, unchanged, dropped, selecting, missed, aimed, carriedOut, inputOf, restOf, step}
 use Rattle.calls.specs.declared.deciding.Aimed.{Aimed}
 use Rattle.calls.specs.declared.deciding.Job.{Job}
 use Rattle.calls.specs.declared.deciding.Job.the-variants.{Stay, DropByte, Select, Miss, Aim}
 use Rattle.frame.proofs.Accepting.{Accepted}
 use Rattle.frame.proofs.Finds.{find-cases}
 use Rattle.frame.proofs.Picks.{by-test}
+use Rattle.frame.specs.Bytes.{part}
 use Rattle.frame.specs.Finding.{find}
 use Rattle.frame.specs.Formats.{commands}
 use Rattle.frame.specs.Frames.{frameLength, longestAnswer}
@@ -187,3 +188,26 @@ module _ (input : List ℕ) (s : State) where
   pub called : (x : Step) (job : Job) → x ≡ carriedOut input s job → job ≡ decide input s → x ≡ step (call input) s
   unfolding step inputOf
   called x job done e = done ∙ ap (carriedOut input s) e
+
+-- ---- the step
+
+module _ (c : Call) (s : State) (P : Step → Type 0) where
+  -- the parameters of a command at the cursor, and the cursor behind it
+  abbrev given : ℕ → List ℕ
+  given pl = parametersAt (inputOf c) (s .reader .cursor) pl
+
+  abbrev behind : ℕ → ℕ
+  behind pl = s .reader .cursor + frameLength pl
+
+  pub step-cases : ((o : Outcome) → numberOf o ≢ 0 → numberOf o ≢ 3 → P (unchanged s o))
+      → (Tested (inputOf c) s → (n : ℕ) (p : Place) → waiting s ≡ Tag n p → P (aimed s (handOutAt s n p) []))
+      → (Tested (inputOf c) s → waiting s ≡ NoTag → (r : Reason) → find commands (restOf c s) ≡ Drop r → 1 ≤ length (restOf c s) → P (dropped s r))
+      → ((pl : ℕ) → Accepts (inputOf c) s pl → P (selecting s (given pl) (behind pl)))
+      → ((pl : ℕ) → Accepts (inputOf c) s pl → lowestTag s ≡ NoTag → P (missed s (errorAt (inputOf c) s pl) (behind pl)))
+      → ((pl : ℕ) → Accepts (inputOf c) s pl → (n : ℕ) (p : Place) → lowestTag s ≡ Tag n p → P (aimed s (commandAt (inputOf c) s pl n p) (given pl)))
+      → P (step c s)
+  unfolding step carriedOut restOf parametersAt part
+  step-cases stays hands drops selects misses aims =
+      job-cases (inputOf c) s (λ (j : Job). P (carriedOut (inputOf c) s j)) stays hands drops (λ pl a code. selects pl a)
+      (λ pl a code none. misses pl a none)
+      (λ pl a code n p e. aims pl a n p e)

@@ -1,7 +1,7 @@
 -- Request P5 over document 01, "Demand 2's machine": a state, one step for each call, and the run of a list of calls. A step is decided first, test by
 -- test, and then carried out.
-use Prim.Native.Nat.{ℕ, _+_, _-_, _*_}
-use mathlib.Core.Bool.{Bool, true, false, not}
+use Prim.Native.Nat.{ℕ, _+_, _-_, _*_, _/_}
+use mathlib.Core.Bool.{not}
 use mathlib.Core.List.{List, [], _∷_}
 use lib.Dec.{eqb, ltb}
 use lib.ListN.{length, drop}
@@ -202,6 +202,18 @@ restOf c s = drop (s .reader .cursor) (inputOf c)
 
 unfoldable pub step : Call → State → Step
 step c s = carriedOut (inputOf c) s (decide (inputOf c) s)
+
+-- Each answer 0 or 3 lowers this, so that it bounds the calls that take something: a byte that is left; 15 for each inventory that may still come, which has seven
+-- bytes, and answers with one tag itself; and the tags that may still be handed out.
+unfoldable pub tagsLeft : Lowest → ℕ
+tagsLeft NoTag = 0
+tagsLeft (Tag number place) = 16 - number
+
+unfoldable pub bytesLeft : List ℕ → State → ℕ
+bytesLeft input s = length input - s .reader .cursor
+
+unfoldable pub work : List ℕ → State → ℕ
+work input s = bytesLeft input s + 15 * (bytesLeft input s / 7) + tagsLeft (waiting s)
 
 -- "The steps run in the order of the list of calls, each from the state that the one before left; an empty list of calls
 -- leaves the start."

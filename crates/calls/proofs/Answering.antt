@@ -1,0 +1,181 @@
+-- What a call answers, and what it leaves where it answers no frame.
+use Prim.Native.Nat.{ℕ, _+_, _%_}
+use lib.Dec.{eqb, leb, ltb}
+use lib.ListN.{length}
+use mathlib.Core.Bool.{Bool, true, false, not, _&&_, or-false}
+use mathlib.Core.List.{List, [], _∷_}
+use mathlib.Core.Logic.{_≢_}
+use mathlib.Core.Path.{_≡_, refl, ap}
+use native.Mathlib.Omega.{arith}
+use Rattle.bench.proofs.Answering.{one-more}
+use Rattle.bench.specs.Machine.{readerOf, numberOf, reasonOf}
+use Rattle.bench.specs.declared.outcome.Outcome.{Outcome}
+use Rattle.bench.specs.declared.outcome.Outcome.the-variants.{Answered, AtEnd, Incomplete, Dropped, PastEnd, BadImage, ShortOutput, FullTally}
+use Rattle.calls.proofs.Steps.{step-cases}
+use Rattle.calls.specs.Claims.{AnswerNumbers, DropReasons, NothingChanges, DropTakesOneByte}
+use Rattle.calls.specs.Machine.{State, stateOf, Call, Step, codeAt, aimJob, commandJob, foundJob, findJob, handOut, waiting, decide, unchanged, dropped, told, selecting, missed, acted, aimed, carriedOut, inputOf, restOf, step}
+use Rattle.calls.specs.Secrecy.{isNone}
+use Rattle.calls.specs.declared.deciding.Job.{Job}
+use Rattle.calls.specs.declared.deciding.Job.the-variants.{Stay, DropByte, Select, Miss, Aim}
+use Rattle.frame.proofs.Finds.{find-reason}
+use Rattle.frame.proofs.Picks.{pick-or, pick-true, pick-false, by-test}
+use Rattle.frame.specs.Bytes.{pick, firstOf, byte, number, part}
+use Rattle.frame.specs.Finding.{find}
+use Rattle.frame.specs.Formats.{commands, plIn, sumRight, lastRight}
+use Rattle.frame.specs.Frames.{sum, checkOf, frameLength, longestCommand, longestAnswer}
+use Rattle.frame.specs.declared.finding.Found.{Found}
+use Rattle.frame.specs.declared.finding.Found.the-variants.{End, Drop, Wait, Accept}
+use Rattle.frame.specs.declared.finding.Reason.{Reason}
+use Rattle.population.specs.Lowest.{lowest}
+use Rattle.population.specs.Selections.{taken}
+use Rattle.population.specs.declared.lowest.Lowest.{Lowest}
+use Rattle.population.specs.declared.lowest.Lowest.the-variants.{NoTag, Tag}
+use Rattle.reader.specs.Tallies.{anyAtLimit, full, limit}
+use Rattle.reader.specs.declared.tally.Tally.{Tally}
+
+-- a Set Select is answered, taken or not
+pub selecting-answers : (s : State) (p : List ℕ) (behind : ℕ) → selecting s p behind .outcome ≡ Answered
+unfolding selecting told
+selecting-answers s p behind = by-test (λ (x : Step). x .outcome ≡ Answered) (taken p) (λ _. refl) (λ _. refl)
+
+-- ---- the number of a job
+
+module _ (input : List ℕ) (s : State) where
+  abbrev numberFor : Job → ℕ
+  numberFor job = numberOf (carriedOut input s job .outcome)
+
+  number-pick : (test : Bool) (x y : Job) → numberFor (pick test x y) ≡ pick test (numberFor x) (numberFor y)
+  unfolding pick
+  number-pick true x y = refl
+  number-pick false x y = refl
+
+  number-hand-out : (cursor : ℕ) (else : Job) (low : Lowest) → numberFor (handOut cursor else low) ≡ pick (not (isNone low)) 0 (numberFor else)
+  unfolding pick handOut isNone carriedOut aimed acted numberOf
+  number-hand-out cursor else NoTag = refl
+  number-hand-out cursor else (Tag n p) = refl
+
+  number-aim : (cursor pl : ℕ) (low : Lowest) → numberFor (aimJob input cursor pl low) ≡ 0
+  unfolding aimJob carriedOut aimed acted missed told numberOf
+  number-aim cursor pl NoTag = refl
+  number-aim cursor pl (Tag n p) = refl
+
+  number-select : (pl : ℕ) → numberFor (Select pl) ≡ 0
+  unfolding carriedOut numberOf
+  number-select pl = ap numberOf (selecting-answers s _ _)
+
+-- and of what was found
+numberOfFound : Found → ℕ
+numberOfFound End = 1
+numberOfFound Wait = 2
+numberOfFound (Drop r) = 3
+numberOfFound (Accept pl) = 0
+
+found-pick : (test : Bool) (x y : Found) → numberOfFound (pick test x y) ≡ pick test (numberOfFound x) (numberOfFound y)
+unfolding pick
+found-pick true x y = refl
+found-pick false x y = refl
+
+number-found : (input : List ℕ) (s : State) (f : Found)
+    → numberFor input s (foundJob input (s .memory) (s .tags) (s .places) (s .selection) (s .reader .cursor) f) ≡ numberOfFound f
+unfolding numberOfFound foundJob commandJob carriedOut unchanged dropped numberOf
+number-found input s End = refl
+number-found input s Wait = refl
+number-found input s (Drop r) = refl
+number-found input s (Accept pl) =
+    by-test (λ (j : Job). numberFor input s j ≡ 0) (eqb (codeAt input (s .reader .cursor)) 0x0C) (λ _. number-select input s pl)
+    (λ _. number-aim input s (s .reader .cursor) pl (lowest (s .memory) (s .tags) (s .places) (s .selection) 0))
+
+pub answer-numbers : AnswerNumbers
+unfolding firstOf step decide waiting findJob numberOfFound carriedOut numberOf unchanged full anyAtLimit limit longestAnswer find sumRight lastRight checkOf plIn frameLength longestCommand restOf
+answer-numbers c s = simp (number-pick, number-hand-out, number-found, found-pick, pick-or, or-false)
+
+-- the table of the reasons, as the claim has it
+abbrev reasonBy : List ℕ → ℕ
+reasonBy rest =
+    firstOf
+    ((not (eqb (byte rest 0) 0xBB), 1)
+    ∷ (leb 2 (length rest) && not (eqb (byte rest 1) 0x00), 2)
+    ∷ (leb 5 (length rest) && ltb 80 (number rest 3), 3)
+    ∷ (not (eqb (byte rest (5 + number rest 3)) (sum (part rest 1 (4 + number rest 3)) % 256)), 4)
+    ∷ [])
+    5
+
+-- an answered step has no reason, and is neither refused nor a drop
+no-reason : (o : Outcome) → numberOf o ≢ 3 → reasonOf o ≡ 0
+unfolding numberOf reasonOf
+no-reason Answered h = refl
+no-reason AtEnd h = refl
+no-reason Incomplete h = refl
+no-reason (Dropped r) h = absurd (h refl)
+no-reason PastEnd h = refl
+no-reason BadImage h = refl
+no-reason ShortOutput h = refl
+no-reason FullTally h = refl
+
+-- a property of every step that is answered needs none of the cases
+module _ (c : Call) (s : State) (P : Step → Type 0) where
+  pub three-cases : ((o : Outcome) → numberOf o ≢ 0 → numberOf o ≢ 3 → P (unchanged s o))
+      → ((r : Reason) → full (s .reader .tally) ≡ false → find commands (restOf c s) ≡ Drop r → P (dropped s r))
+      → ((x : Step) → x .outcome ≡ Answered → P x)
+      → P (step c s)
+  unfolding aimed acted missed told
+  three-cases stays drops answers =
+      step-cases c s P stays (λ t n p e. answers _ refl) (λ t none r found some. drops r (t .not-full) found) (λ pl a. answers _ (selecting-answers s _ _))
+      (λ pl a none. answers _ refl)
+      (λ pl a n p e. answers _ refl)
+
+answered-number : (x : Step) → x .outcome ≡ Answered → numberOf (x .outcome) ≡ 0
+unfolding numberOf
+answered-number x e = ap numberOf e
+
+pub drop-reasons : DropReasons
+unfolding unchanged dropped numberOf reasonOf sumRight checkOf plIn longestCommand
+drop-reasons c s = (
+  λ other. no-reason (step c s .outcome) other,
+  λ three.
+      three-cases c s
+      (λ (x : Step). numberOf (x .outcome) ≡ 3 → reasonOf (x .outcome) ≡ reasonBy (restOf c s))
+      (λ o m n h. absurd (n h))
+      (λ r room found h. find-reason commands (restOf c s) r found)
+      (λ x e h. absurd (omega (arith, answered-number x e, h)))
+      three,
+)
+
+pub nothing-changes : NothingChanges
+unfolding unchanged dropped numberOf
+nothing-changes c s =
+    three-cases c s (λ (x : Step). numberOf (x .outcome) ≢ 0 → numberOf (x .outcome) ≢ 3 → (x .next ≡ s) × (x .length ≡ 0))
+    (λ o m n zero three. (refl, refl))
+    (λ r room found zero three. absurd (three refl))
+    (λ x e zero three. absurd (zero (answered-number x e)))
+
+pub drop-takes-one-byte : DropTakesOneByte
+unfolding unchanged dropped numberOf reasonOf
+drop-takes-one-byte c s =
+    three-cases c s
+    (λ (x : Step).
+    numberOf (x .outcome) ≡ 3
+    → (x .length ≡ 0)
+    × (x .next
+    ≡ stateOf (s .memory) (s .places) (s .tags) (s .selection) (s .output)
+    record {
+      cursor = s .reader .cursor + 1;
+      tally =
+          record {
+            good = s .reader .tally .good;
+            error = s .reader .tally .error;
+            header = s .reader .tally .header + pick (eqb (reasonOf (x .outcome)) 1) 1 0;
+            kind = s .reader .tally .kind + pick (eqb (reasonOf (x .outcome)) 2) 1 0;
+            long = s .reader .tally .long + pick (eqb (reasonOf (x .outcome)) 3) 1 0;
+            check = s .reader .tally .check + pick (eqb (reasonOf (x .outcome)) 4) 1 0;
+            end = s .reader .tally .end + pick (eqb (reasonOf (x .outcome)) 5) 1 0;
+          };
+    }
+    (s .next)))
+    (λ o m n three. absurd (n three))
+    (λ r room found three. (
+      refl,
+      ap (λ (t : Tally). stateOf (s .memory) (s .places) (s .tags) (s .selection) (s .output) (readerOf (s .reader .cursor + 1) t) (s .next))
+          (one-more (s .reader .tally) room r),
+    ))
+    (λ x e three. absurd (omega (arith, answered-number x e, three)))
