@@ -30,7 +30,7 @@ use Rattle.image.specs.Image.{good}
 use Rattle.tag.specs.declared.commands.Act.{Act}
 
 -- all counts together: an answer or a drop adds one at most
-pub total : Tally → ℕ
+unfoldable pub total : Tally → ℕ
 total t = sum (countsOf t)
 
 pub counted-most : (t : Tally) (act : Act) → total (counted act t) ≤ total t + 1

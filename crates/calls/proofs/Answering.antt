@@ -120,9 +120,9 @@ module _ (c : Call) (s : State) (P : Step → Type 0) where
       → P (step c s)
   unfolding aimed acted missed told
   three-cases stays drops answers =
-      step-cases c s P stays (λ t n p e. answers _ refl) (λ t none r found some. drops r (t .not-full) found) (λ pl a. answers _ (selecting-answers s _ _))
-      (λ pl a none. answers _ refl)
-      (λ pl a n p e. answers _ refl)
+      step-cases c s P stays (λ t n p e. answers _ refl) (λ t none r found some. drops r (t .not-full) found) (λ pl a code. answers _ (selecting-answers s _ _))
+      (λ pl a code none. answers _ refl)
+      (λ pl a code n p e. answers _ refl)
 
 answered-number : (x : Step) → x .outcome ≡ Answered → numberOf (x .outcome) ≡ 0
 unfolding numberOf

@@ -1,7 +1,11 @@
 -- A proof of every statement on the claims page, specs/Claims.antt, in its order.
 use Rattle.calls.proofs.Answering as Answering
+use Rattle.calls.proofs.Bounding as Bounding
+use Rattle.calls.proofs.Counting as Counting
+use Rattle.calls.proofs.Handing as Handing
 use Rattle.calls.proofs.Secrets as Secrets
-use Rattle.calls.specs.Claims.{AnswerNumbers, DropReasons, NothingChanges, DropTakesOneByte, Demand3}
+use Rattle.calls.proofs.Staying as Staying
+use Rattle.calls.specs.Claims.{AnswerNumbers, DropReasons, NothingChanges, DropTakesOneByte, HandOut, ExactlyOnce, InventoryStarts, OneTagOnly, GoodStaysGood, History, WorkFalls, Bound, Demand3}
 
 pub answer-numbers : AnswerNumbers
 answer-numbers = Answering.answer-numbers
@@ -14,6 +18,30 @@ nothing-changes = Answering.nothing-changes
 
 pub drop-takes-one-byte : DropTakesOneByte
 drop-takes-one-byte = Answering.drop-takes-one-byte
+
+pub hand-out : HandOut
+hand-out = Handing.hand-out
+
+pub exactly-once : ExactlyOnce
+exactly-once = Handing.exactly-once
+
+pub inventory-starts : InventoryStarts
+inventory-starts = Handing.inventory-starts
+
+pub one-tag-only : OneTagOnly
+one-tag-only = Staying.one-tag-only
+
+pub good-stays-good : GoodStaysGood
+good-stays-good = Staying.good-stays-good
+
+pub history : History
+history = Counting.history
+
+pub work-falls : WorkFalls
+work-falls = Bounding.work-falls
+
+pub bound : Bound
+bound = Bounding.bound
 
 pub demand3 : Demand3
 demand3 = Secrets.demand3

@@ -1,10 +1,14 @@
 pub mod Absents
 pub mod Answering
+pub mod Bounding
 pub mod Choosing
 pub mod Claimed
+pub mod Counting
 pub mod Doing
+pub mod Handing
 pub mod Hiding
 pub mod Jobs
 pub mod Lowests
 pub mod Secrets
+pub mod Staying
 pub mod Steps

@@ -202,12 +202,12 @@ module _ (c : Call) (s : State) (P : Step → Type 0) where
   pub step-cases : ((o : Outcome) → numberOf o ≢ 0 → numberOf o ≢ 3 → P (unchanged s o))
       → (Tested (inputOf c) s → (n : ℕ) (p : Place) → waiting s ≡ Tag n p → P (aimed s (handOutAt s n p) []))
       → (Tested (inputOf c) s → waiting s ≡ NoTag → (r : Reason) → find commands (restOf c s) ≡ Drop r → 1 ≤ length (restOf c s) → P (dropped s r))
-      → ((pl : ℕ) → Accepts (inputOf c) s pl → P (selecting s (given pl) (behind pl)))
-      → ((pl : ℕ) → Accepts (inputOf c) s pl → lowestTag s ≡ NoTag → P (missed s (errorAt (inputOf c) s pl) (behind pl)))
-      → ((pl : ℕ) → Accepts (inputOf c) s pl → (n : ℕ) (p : Place) → lowestTag s ≡ Tag n p → P (aimed s (commandAt (inputOf c) s pl n p) (given pl)))
+      → ((pl : ℕ) → Accepts (inputOf c) s pl → codeAt (inputOf c) (s .reader .cursor) ≡ 0x0C → P (selecting s (given pl) (behind pl)))
+      → ((pl : ℕ) → Accepts (inputOf c) s pl → codeAt (inputOf c) (s .reader .cursor) ≢ 0x0C → lowestTag s ≡ NoTag
+      → P (missed s (errorAt (inputOf c) s pl) (behind pl)))
+      → ((pl : ℕ) → Accepts (inputOf c) s pl → codeAt (inputOf c) (s .reader .cursor) ≢ 0x0C → (n : ℕ) (p : Place) → lowestTag s ≡ Tag n p
+      → P (aimed s (commandAt (inputOf c) s pl n p) (given pl)))
       → P (step c s)
   unfolding step carriedOut restOf parametersAt part
   step-cases stays hands drops selects misses aims =
-      job-cases (inputOf c) s (λ (j : Job). P (carriedOut (inputOf c) s j)) stays hands drops (λ pl a code. selects pl a)
-      (λ pl a code none. misses pl a none)
-      (λ pl a code n p e. aims pl a n p e)
+      job-cases (inputOf c) s (λ (j : Job). P (carriedOut (inputOf c) s j)) stays hands drops selects misses aims

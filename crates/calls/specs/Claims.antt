@@ -105,6 +105,160 @@ DropTakesOneByte =
     }
     (s .next))
 
+-- ---- Hand-out: "Inventory hands out each matching present tag exactly once, in rising number, one per call, then takes the next command"
+
+-- A tag is still to hand out, and no test 10 to 13 refuses: "The cursor moves with the first of them only, each raises the good count"; "one no longer present and
+-- matching at its turn is passed over". The frame is that of an inventory at this tag.
+pub record HandsOut (s : State) (n : ℕ) (p : Place) (x : Step) : Type 0 where
+  pub lowest-from-next : LowestRules (s .memory) (s .tags) (s .places) (s .selection) (s .next) n p
+  pub notification : take (x .length) (x .next .output) ≡ comesTo (imageOf (s .memory) p) 0x22 [] .0
+  pub behind-stays : drop (x .length) (x .next .output) ≡ drop (x .length) (s .output)
+  pub memory-stays : x .next .memory ≡ s .memory
+  pub selection-stays : x .next .selection ≡ s .selection
+  pub cursor-stays : x .next .reader .cursor ≡ s .reader .cursor
+  pub good-raised : x .next .reader .tally
+      ≡ record {
+        good = s .reader .tally .good + 1;
+        error = s .reader .tally .error;
+        header = s .reader .tally .header;
+        kind = s .reader .tally .kind;
+        long = s .reader .tally .long;
+        check = s .reader .tally .check;
+        end = s .reader .tally .end;
+      }
+  pub behind-it : x .next .next ≡ n + 1
+
+abbrev pub HandOut : Type 0
+HandOut = (c : Call) (s : State) (n : ℕ) (p : Place) → waiting s ≡ Tag n p → answerOf c s ≡ 0 → HandsOut s n p (step c s)
+
+-- the numbers from i on, k of them, that pass a test
+unfoldable pub passing : (ℕ → Bool) → ℕ → ℕ → List ℕ
+passing test i zero = []
+passing test i (suc k) = pick (test i) (i ∷ passing test (i + 1) k) (passing test (i + 1) k)
+
+-- the matching present tags from a number on, in rising number
+unfoldable pub isCandidate : State → ℕ → Bool
+isCandidate s i =
+    eqb (byte (imageOf (s .memory) (placeOfTag (s .places) i)) 22) 0 && matches (imageOf (s .memory) (placeOfTag (s .places) i)) (s .selection)
+
+unfoldable pub candidates : State → ℕ → List ℕ
+candidates s start = passing (isCandidate s) start (s .tags - start)
+
+unfoldable pub numberIn : Lowest → List ℕ
+numberIn NoTag = []
+numberIn (Tag number place) = number ∷ []
+
+-- the numbers that a list of calls hands out: a call that answers 0 while a tag is still to hand out
+unfoldable pub handedBy : Call → State → List ℕ
+handedBy c s = pick (eqb (answerOf c s) 0) (numberIn (waiting s)) []
+
+unfoldable pub handed : List Call → State → List ℕ
+handed [] s = []
+handed (c ∷ calls) s = handedBy c s ++ handed calls (step c s .next)
+
+-- While nothing is accepted, whatever the input of the calls: those handed out, and then those still to hand out, are those of the start. So each is handed out
+-- exactly once, and none is left out.
+abbrev pub ExactlyOnce : Type 0
+ExactlyOnce =
+    (calls : List Call) (s : State)
+    → goodPopulation (s .memory) (s .tags) (s .places) ≡ true
+    → accepted calls s ≡ []
+    → handed calls s ++ candidates (after calls s) (after calls s .next) ≡ candidates s (s .next)
+
+-- an accepted inventory answers with the first of all of them, and leaves the others to hand out
+abbrev pub InventoryStarts : Type 0
+InventoryStarts =
+    (c : Call) (s : State) (n : ℕ) (p : Place)
+    → answerOf c s ≡ 0
+    → waiting s ≡ NoTag
+    → lowest (s .memory) (s .tags) (s .places) (s .selection) 0 ≡ Tag n p
+    → byte (restOf c s) 2 ≡ 0x22
+    → number (restOf c s) 3 ≡ 0
+    → n ∷ candidates (step c s .next) (step c s .next .next) ≡ candidates s 0
+
+-- ---- The memory
+
+-- "A command aimed at one tag leaves all bytes of the others.": nothing is stored, or it is stored at the lowest matching present tag alone
+pub record StoredAt (s : State) (n : ℕ) (p : Place) (memory : List ℕ) : Type 0 where
+  pub the-lowest : LowestRules (s .memory) (s .tags) (s .places) (s .selection) 0 n p
+  pub same-length : length memory ≡ length (s .memory)
+  pub other-bytes-stay : (k : ℕ) → (Holds p k → ⊥) → byte memory k ≡ byte (s .memory) k
+  pub other-tags-stay : (j : ℕ) → j < s .tags → n ≢ j
+      → imageOf memory (placeOfTag (s .places) j) ≡ imageOf (s .memory) (placeOfTag (s .places) j)
+
+abbrev pub OneTagOnly : Type 0
+OneTagOnly = (c : Call) (s : State) → (step c s .next .memory ≡ s .memory) ⊎ ((n : ℕ) × (p : Place) × StoredAt s n p (step c s .next .memory))
+
+-- "After every call a good image is good.": the crate and its selection, and tags and places are as they were
+pub record StillGood (s t : State) : Type 0 where
+  pub population : goodPopulation (s .memory) (s .tags) (s .places) ≡ true → goodPopulation (t .memory) (t .tags) (t .places) ≡ true
+  pub selection : goodSelection (s .selection) ≡ true → goodSelection (t .selection) ≡ true
+  pub same-tags : t .tags ≡ s .tags
+  pub same-places : t .places ≡ s .places
+
+abbrev pub GoodStaysGood : Type 0
+GoodStaysGood = (calls : List Call) (s : State) → StillGood s (after calls s)
+
+-- ---- Counts and calls
+
+-- how many steps of a run pass a test; "An error answer is one with code FF."
+unfoldable pub count : (Step → Bool) → List Step → ℕ
+count test [] = 0
+count test (x ∷ steps) = pick (test x) 1 0 + count test steps
+
+unfoldable pub isGood : Step → Bool
+isGood x = eqb (numberOf (x .outcome)) 0 && not (eqb (byte (x .next .output) 2) 0xFF)
+
+unfoldable pub isError : Step → Bool
+isError x = eqb (numberOf (x .outcome)) 0 && eqb (byte (x .next .output) 2) 0xFF
+
+unfoldable pub isDropped : ℕ → Step → Bool
+isDropped reason x = eqb (numberOf (x .outcome)) 3 && eqb (reasonOf (x .outcome)) reason
+
+-- "Each answer 0 or 3 raises exactly one of them by one; nothing else does." "counts equal those at the start plus the number of such
+-- calls in the history", each reason by its own
+abbrev pub History : Type 0
+History =
+    (calls : List Call) (s : State)
+    → after calls s .reader .tally
+    ≡ record {
+      good = s .reader .tally .good + count isGood (run calls s);
+      error = s .reader .tally .error + count isError (run calls s);
+      header = s .reader .tally .header + count (isDropped 1) (run calls s);
+      kind = s .reader .tally .kind + count (isDropped 2) (run calls s);
+      long = s .reader .tally .long + count (isDropped 3) (run calls s);
+      check = s .reader .tally .check + count (isDropped 4) (run calls s);
+      end = s .reader .tally .end + count (isDropped 5) (run calls s);
+    }
+
+-- Each answer 0 or 3 lowers the work that is left.
+unfoldable pub takes : Step → Bool
+takes x = eqb (numberOf (x .outcome)) 0 || eqb (numberOf (x .outcome)) 3
+
+abbrev pub WorkFalls : Type 0
+WorkFalls = (input : List ℕ) (s : State) → takes (step (call input) s) ≡ true → work input (step (call input) s .next) < work input s
+
+-- the inventories among accepted commands
+unfoldable pub inventories : List Command → ℕ
+inventories [] = 0
+inventories (m ∷ commands) = pick (eqb (m .code) 0x22) 1 0 + inventories commands
+
+-- "From cursor 0 of n bytes (n at most 65,536), with a good image, an output of 136 bytes and a fresh tally, at most n calls answer 0 or 3 before one answers 1 or
+-- 2." P5: "the bound on calls, from a start with none to hand out, grows by 15 for each accepted inventory". The output may also be longer.
+abbrev pub Bound : Type 0
+Bound =
+    (input : List ℕ) (s : State)
+    → length input ≤ 65536
+    → s .reader ≡ freshReader
+    → goodSelection (s .selection) ≡ true
+    → goodPopulation (s .memory) (s .tags) (s .places) ≡ true
+    → 136 ≤ length (s .output)
+    → waiting s ≡ NoTag
+    → (k : ℕ)
+    × (k ≤ length input + 15 * inventories (accepted (replicate k (call input)) s))
+    × (count takes (run (replicate k (call input)) s) ≡ k)
+    × ((answerOf (call input) (after (replicate k (call input)) s) ≡ 1) ⊎ (answerOf (call input) (after (replicate k (call input)) s) ≡ 2))
+
 -- ---- Demand 3: the log does not tell the passwords
 
 -- "the two runs may differ in the password bytes of every tag that meets its premises .. and both runs start with the same selection and the same tags still to
