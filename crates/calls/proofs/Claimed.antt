@@ -1,11 +1,12 @@
 -- A proof of every statement on the claims page, specs/Claims.antt, in its order.
 use Rattle.calls.proofs.Answering as Answering
 use Rattle.calls.proofs.Bounding as Bounding
+use Rattle.calls.proofs.Carrying as Carrying
 use Rattle.calls.proofs.Counting as Counting
 use Rattle.calls.proofs.Handing as Handing
 use Rattle.calls.proofs.Secrets as Secrets
 use Rattle.calls.proofs.Staying as Staying
-use Rattle.calls.specs.Claims.{AnswerNumbers, DropReasons, NothingChanges, DropTakesOneByte, HandOut, ExactlyOnce, InventoryStarts, OneTagOnly, GoodStaysGood, History, WorkFalls, Bound, Demand3}
+use Rattle.calls.specs.Claims.{AnswerNumbers, DropReasons, NothingChanges, DropTakesOneByte, HandOut, ExactlyOnce, InventoryStarts, CommandsAim, CommandsMiss, SetSelect, OneTagOnly, GoodStaysGood, History, WorkFalls, Bound, Demand3}
 
 pub answer-numbers : AnswerNumbers
 answer-numbers = Answering.answer-numbers
@@ -27,6 +28,15 @@ exactly-once = Handing.exactly-once
 
 pub inventory-starts : InventoryStarts
 inventory-starts = Handing.inventory-starts
+
+pub commands-aim : CommandsAim
+commands-aim = Carrying.commands-aim
+
+pub commands-miss : CommandsMiss
+commands-miss = Carrying.commands-miss
+
+pub set-select : SetSelect
+set-select = Carrying.set-select
 
 pub one-tag-only : OneTagOnly
 one-tag-only = Staying.one-tag-only

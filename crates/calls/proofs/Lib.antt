@@ -1,6 +1,7 @@
 pub mod Absents
 pub mod Answering
 pub mod Bounding
+pub mod Carrying
 pub mod Choosing
 pub mod Claimed
 pub mod Counting

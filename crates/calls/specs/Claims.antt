@@ -17,13 +17,13 @@ use Rattle.population.specs.Claims.{Holds, placeOfTag, imageOf, Candidate, Lowe
 use Rattle.population.specs.Lowest.{lowest}
 use Rattle.population.specs.Matching.{matches}
 use Rattle.population.specs.Places.{goodPopulation}
-use Rattle.population.specs.Selections.{goodSelection}
+use Rattle.population.specs.Selections.{taken, goodSelection}
 use Rattle.population.specs.declared.lowest.Lowest.{Lowest}
 use Rattle.population.specs.declared.lowest.Lowest.the-variants.{NoTag, Tag}
 use Rattle.population.specs.declared.places.Place.{Place}
 use Rattle.reader.specs.Readers.{freshReader}
 use Rattle.reader.specs.declared.state.Reader.{Reader}
-use Rattle.tag.specs.Claims.{comesTo}
+use Rattle.tag.specs.Claims.{comesTo, framed}
 
 -- the answer number of a call, and the reason of its drop (0: none)
 abbrev pub answerOf : Call → State → ℕ
@@ -175,6 +175,65 @@ InventoryStarts =
     → byte (restOf c s) 2 ≡ 0x22
     → number (restOf c s) 3 ≡ 0
     → n ∷ candidates (step c s .next) (step c s .next .next) ≡ candidates s 0
+
+-- ---- Accepted commands
+
+-- "A command is accepted if finding rule 7 accepts it and the call answers 0", with none still to hand out: the cursor moves over it
+abbrev pub Accepting : Call → State → Type 0
+Accepting c s = (answerOf c s ≡ 0) × (waiting s ≡ NoTag)
+
+-- its code and its parameters, as they stand in the frame
+abbrev pub codeOf : Call → State → ℕ
+codeOf c s = byte (restOf c s) 2
+
+abbrev pub parametersOf : Call → State → List ℕ
+parametersOf c s = part (restOf c s) 5 (number (restOf c s) 3)
+
+-- "Read, Write, Lock and Kill go to the lowest-numbered present tag that matches", and inventory too: the tables of the tag's claims page say what it comes to
+-- there, in frame and image. Every command but an inventory that found a tag leaves none to hand out.
+pub record CarriedOutAt (c : Call) (s : State) (n : ℕ) (p : Place) (x : Step) : Type 0 where
+  pub comes-to : (take (x .length) (x .next .output), imageOf (x .next .memory) p) ≡ comesTo (imageOf (s .memory) p) (codeOf c s) (parametersOf c s)
+  pub selection-stays : x .next .selection ≡ s .selection
+  pub over-the-command : x .next .reader .cursor ≡ s .reader .cursor + (7 + number (restOf c s) 3)
+  pub none-to-hand-out : codeOf c s ≢ 0x22 → x .next .next ≡ 16
+
+abbrev pub CommandsAim : Type 0
+CommandsAim =
+    (c : Call) (s : State) (n : ℕ) (p : Place)
+    → Accepting c s
+    → codeOf c s ≢ 0x0C
+    → lowest (s .memory) (s .tags) (s .places) (s .selection) 0 ≡ Tag n p
+    → CarriedOutAt c s n p (step c s)
+
+-- "or answer as with no tag": as any tag does that is killed or out of the field, and nothing is stored
+pub record AnsweredWithout (c : Call) (s : State) (x : Step) : Type 0 where
+  pub as-an-absent-tag : (image : List ℕ) → byte image 22 ≢ 0 → take (x .length) (x .next .output) ≡ comesTo image (codeOf c s) (parametersOf c s) .0
+  pub memory-stays : x .next .memory ≡ s .memory
+  pub selection-stays : x .next .selection ≡ s .selection
+  pub over-the-command : x .next .reader .cursor ≡ s .reader .cursor + (7 + number (restOf c s) 3)
+  pub none-to-hand-out : x .next .next ≡ 16
+
+abbrev pub CommandsMiss : Type 0
+CommandsMiss =
+    (c : Call) (s : State)
+    → Accepting c s
+    → codeOf c s ≢ 0x0C
+    → lowest (s .memory) (s .tags) (s .places) (s .selection) 0 ≡ NoTag
+    → AnsweredWithout c s (step c s)
+
+-- Set Select "answers 00", and its parameters become the selection; "anything else, or the Reserved bank, is plain 17", and the selection stays. It looks at no tag.
+abbrev pub selectRow : List ℕ → List ℕ → List ℕ × List ℕ
+selectRow selection p = firstOf ((taken p, (framed 0x01 0x0C (0x00 ∷ []), p)) ∷ []) (framed 0x01 0xFF (0x17 ∷ []), selection)
+
+pub record SelectionSet (c : Call) (s : State) (x : Step) : Type 0 where
+  pub frame-and-selection : (take (x .length) (x .next .output), x .next .selection)
+      ≡ selectRow (s .selection) (parametersOf c s)
+  pub memory-stays : x .next .memory ≡ s .memory
+  pub over-the-command : x .next .reader .cursor ≡ s .reader .cursor + (7 + number (restOf c s) 3)
+  pub none-to-hand-out : x .next .next ≡ 16
+
+abbrev pub SetSelect : Type 0
+SetSelect = (c : Call) (s : State) → Accepting c s → codeOf c s ≡ 0x0C → SelectionSet c s (step c s)
 
 -- ---- The memory
 
