@@ -1,0 +1,196 @@
+// The bench with a crate of tags, for C and Rust: one function on numbers and lent slices. A slice passes as a pointer and a length, the selection's 39 bytes
+// as a pointer.
+use bench::outcome::number_of;
+use bench::outcome::reason_of;
+use calls::calling::Called;
+use calls::calling::call;
+use population::places::Place;
+use reader::state::Reader;
+use reader::tally::Tally;
+ghost use mathlib.Core.Bool.{true};
+ghost use mathlib.Core.Path.{_≡_};
+ghost use Prim.Native.Nat.{_*_, _≤_};
+ghost use lib.ListN.{length};
+ghost use Rattle.bench.specs.Machine.{numberOf, reasonOf};
+ghost use Rattle.population.specs.Below.{allBelow};
+ghost use Rattle.embed_crate.specs.Packed.{packed, readerIn, leftBy, called as calledOn};
+ghost use Rattle.embed_crate.specs.Placed.{usedOf, smallAt, placesFit, placed};
+
+// The most that a count of the tally can hold, and a number of a place.
+const LIMIT: u64 = 4294967295;
+
+// The numbers of the packed state, as a reader's state.
+enum Unpacked {
+    Fit(Reader),
+    OutOfRange,
+}
+
+// The reader of a cursor and seven counts, or that a count is more than a tally can hold: then it has a bit above theirs.
+fn reader_of(state: &[u64]) -> Unpacked
+    requires { ⌜ length (now state) ≡ 12 ⌝ }
+    ensures { λ r. ⌜ r ≡ readerIn (now (state .entry)) ⌝ }
+{
+    let bits = state[1] | state[2] | state[3] | state[4] | state[5] | state[6] | state[7];
+    if LIMIT < bits {
+        return Unpacked::OutOfRange;
+    }
+    Unpacked::Fit(Reader {
+        cursor: state[0] as usize,
+        tally: Tally {
+            good: state[1] as u32,
+            error: state[2] as u32,
+            header: state[3] as u32,
+            kind: state[4] as u32,
+            long: state[5] as u32,
+            check: state[6] as u32,
+            end: state[7] as u32,
+        },
+    })
+}
+
+// A crate has no more than sixteen tags: of more numbers only these are looked at, and the call says that they are too many.
+fn used_of(tags: usize) -> usize
+    ensures { λ r. ⌜ r ≡ usedOf tags ⌝ }
+{
+    if 16 < tags {
+        return 16;
+    }
+    tags
+}
+
+// None of the first n numbers is more than a place can hold.
+fn are_small(numbers: &[u64], n: usize) -> bool
+    requires { ⌜ (n ≤ 32) × (n ≤ length (now numbers)) ⌝ }
+    ensures { λ r. ⌜ r ≡ allBelow (smallAt (now (numbers .entry))) n ⌝ }
+{
+    let mut i = 0;
+    while i < n {
+        if LIMIT < numbers[i] {
+            return false;
+        }
+        i += 1;
+    }
+    true
+}
+
+// The numbers are two for each tag, such as a place can hold.
+fn are_places(numbers: &[u64]) -> bool
+    ensures { λ r. ⌜ r ≡ placesFit (now (numbers .entry)) ⌝ }
+{
+    let n = numbers.len();
+    if n % 2 != 0 {
+        return false;
+    }
+    let used = used_of(n / 2);
+    are_small(numbers, 2 * used)
+}
+
+// The places of the first tags, in a row of sixteen.
+fn places_of(numbers: &[u64], tags: usize) -> [Place; 16]
+    requires { ⌜
+        (tags ≤ 16) × ((2 * tags ≤ length (now numbers)) × (allBelow (smallAt (now numbers)) (2 * tags) ≡ true))
+        ⌝ }
+    ensures { λ r. ⌜ r ≡ placed (now (numbers .entry)) tags ⌝ }
+{
+    let nowhere = Place { from: 0, size: 0 };
+    let mut places = [nowhere; 16];
+    let mut i = 0;
+    while i < tags {
+        let from = numbers[2 * i];
+        let size = numbers[2 * i + 1];
+        places[i] = Place {
+            from: from as u32,
+            size: size as u32,
+        };
+        i += 1;
+    }
+    places
+}
+
+// All twelve numbers are stored.
+fn store(state: &mut [u64], reader: Reader, length: usize, reason: u64, next: usize, count: usize)
+    requires { ⌜ lib.ListN.length (now state) ≡ 12 ⌝ }
+    ensures { λ _. ⌜ now (state .exit) ≡ packed reader length reason next count ⌝ }
+{
+    let tally = reader.tally;
+    state[0] = reader.cursor as u64;
+    state[1] = tally.good as u64;
+    state[2] = tally.error as u64;
+    state[3] = tally.header as u64;
+    state[4] = tally.kind as u64;
+    state[5] = tally.long as u64;
+    state[6] = tally.check as u64;
+    state[7] = tally.end as u64;
+    state[8] = length as u64;
+    state[9] = reason;
+    state[10] = next as u64;
+    state[11] = count as u64;
+}
+
+// What the call handed back is stored, and its number told.
+fn tell(state: &mut [u64], called: Called) -> u64
+    requires { ⌜ length (now state) ≡ 12 ⌝ }
+    ensures { λ r. ⌜
+        (r ≡ numberOf (called .outcome))
+        × (now (state .exit) ≡ packed (called .reader) (called .length) (reasonOf (called .outcome)) (called .next) (called .count))
+        ⌝ }
+{
+    let outcome = called.outcome;
+    let reason = reason_of(outcome);
+    store(
+        state,
+        called.reader,
+        called.length,
+        reason,
+        called.next,
+        called.count,
+    );
+    number_of(outcome)
+}
+
+// One call over a crate of tags, for any slices. `places` has two numbers for each tag: where it begins in the memory, and how many bytes it has. The twelve
+// numbers of `state` are the cursor, the counts of good answers, error answers and bytes dropped for each of the five reasons, the length of the frame
+// written, the reason of a drop, 0 for none, the number of the first tag that may still be handed out, 16 for none, and how many bytes the selection has.
+// The result is the answer number, or 20 where `state` does not have twelve numbers, 21 where a count is more than a tally can hold, 22 where `places`
+// has an odd number of numbers, or one that no place can hold; under these three nothing changes.
+#[no_mangle]
+pub extern "C" fn poldrisk_crate_call(
+    input: &[u8],
+    memory: &mut [u8],
+    output: &mut [u8],
+    places: &[u64],
+    selection: &mut [u8; 39],
+    state: &mut [u64],
+) -> u64
+    ensures { λ r. ⌜
+        leftBy r (now (memory .exit)) (now (output .exit)) (now (selection .exit)) (now (state .exit))
+        ≡ calledOn (now (input .entry)) (now (memory .entry)) (now (output .entry)) (now (places .entry)) (now (selection .entry)) (now (state .entry))
+        ⌝ }
+{
+    if state.len() != 12 {
+        return 20;
+    }
+    let Unpacked::Fit(reader) = reader_of(state) else {
+        return 21;
+    };
+    if !are_places(places) {
+        return 22;
+    }
+    let tags = places.len() / 2;
+    let used = used_of(tags);
+    let row = places_of(places, used);
+    let next = state[10] as usize;
+    let count = state[11] as usize;
+    let called = call(
+        input,
+        memory,
+        output,
+        selection,
+        row,
+        tags,
+        reader,
+        next,
+        count,
+    );
+    tell(state, called)
+}
