@@ -3,10 +3,11 @@ use Rattle.calls.proofs.Answering as Answering
 use Rattle.calls.proofs.Bounding as Bounding
 use Rattle.calls.proofs.Carrying as Carrying
 use Rattle.calls.proofs.Counting as Counting
+use Rattle.calls.proofs.Framing as Framing
 use Rattle.calls.proofs.Handing as Handing
 use Rattle.calls.proofs.Secrets as Secrets
 use Rattle.calls.proofs.Staying as Staying
-use Rattle.calls.specs.Claims.{AnswerNumbers, DropReasons, NothingChanges, DropTakesOneByte, HandOut, ExactlyOnce, InventoryStarts, CommandsAim, CommandsMiss, SetSelect, OneTagOnly, GoodStaysGood, History, WorkFalls, Bound, Demand3}
+use Rattle.calls.specs.Claims.{AnswerNumbers, DropReasons, NothingChanges, DropTakesOneByte, AnswerIsOneFrame, HandOut, ExactlyOnce, InventoryStarts, CommandsAim, CommandsMiss, SetSelect, OneTagOnly, GoodStaysGood, History, WorkFalls, Bound, Demand3}
 
 pub answer-numbers : AnswerNumbers
 answer-numbers = Answering.answer-numbers
@@ -19,6 +20,9 @@ nothing-changes = Answering.nothing-changes
 
 pub drop-takes-one-byte : DropTakesOneByte
 drop-takes-one-byte = Answering.drop-takes-one-byte
+
+pub answer-is-one-frame : AnswerIsOneFrame
+answer-is-one-frame = Framing.answer-is-one-frame
 
 pub hand-out : HandOut
 hand-out = Handing.hand-out

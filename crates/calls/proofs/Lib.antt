@@ -4,8 +4,10 @@ pub mod Bounding
 pub mod Carrying
 pub mod Choosing
 pub mod Claimed
+pub mod Computed
 pub mod Counting
 pub mod Doing
+pub mod Framing
 pub mod Handing
 pub mod Hiding
 pub mod Jobs

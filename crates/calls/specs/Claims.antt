@@ -105,6 +105,21 @@ DropTakesOneByte =
     }
     (s .next))
 
+-- 0: "one frame at the start of the output; cursor moves over the command"; "Answers have at most 136 bytes."; "Bytes of the output behind the written frame
+-- stay." P5: "The cursor moves with the first of them only". Which frame it is, the claims below say.
+pub record OneFrame (c : Call) (s : State) (x : Step) : Type 0 where
+  pub some : 0 < x .length
+  pub at-most-136 : x .length ≤ 136
+  pub behind-stays : drop (x .length) (x .next .output) ≡ drop (x .length) (s .output)
+  pub room-stays : length (x .next .output) ≡ length (s .output)
+  pub in-the-output : x .length ≤ length (x .next .output)
+  pub over-the-command : waiting s ≡ NoTag → x .next .reader .cursor ≡ s .reader .cursor + (7 + number (restOf c s) 3)
+  pub stays-with-a-tag : (n : ℕ) (p : Place) → waiting s ≡ Tag n p → x .next .reader .cursor ≡ s .reader .cursor
+  pub not-past-the-end : x .next .reader .cursor ≤ length (inputOf c)
+
+abbrev pub AnswerIsOneFrame : Type 0
+AnswerIsOneFrame = (c : Call) (s : State) → answerOf c s ≡ 0 → OneFrame c s (step c s)
+
 -- ---- Hand-out: "Inventory hands out each matching present tag exactly once, in rising number, one per call, then takes the next command"
 
 -- A tag is still to hand out, and no test 10 to 13 refuses: "The cursor moves with the first of them only, each raises the good count"; "one no longer present and

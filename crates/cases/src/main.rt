@@ -9,9 +9,11 @@ use samples::LONGEST;
 use samples::SAMPLE;
 use samples::TRUNCATED;
 
+// One tag, which has all of the memory.
 fn run(heading: &[u8], commands: &[u8], image: &mut [u8]) {
     io::write_all(STDOUT_FILENO, heading);
-    console::print(true, commands, image);
+    let sizes = [image.len() as u64; 1];
+    console::print(true, commands, image, &sizes);
 }
 
 fn on_sample(heading: &[u8], commands: &[u8]) {
@@ -61,6 +63,31 @@ fn long_report() {
     on_sample(b"A report of several pieces\n", &commands);
 }
 
+// Tags of 86 bytes, one behind the other. The first two are the sample tag.
+fn on_crate(heading: &[u8], commands: &[u8], sizes: &[u64]) {
+    let mut memory = [0u8; 1462];
+    copy(&SAMPLE, 0, 86, &mut memory, 0);
+    copy(&SAMPLE, 0, 86, &mut memory, 86);
+    io::write_all(STDOUT_FILENO, heading);
+    console::print(true, commands, &mut memory, sizes);
+}
+
+fn crates() {
+    on_crate(b"No tag at all\n", &TRUNCATED, &[0u64; 0]);
+    on_crate(b"Two tags\n", &TRUNCATED, &[86u64; 2]);
+    on_crate(
+        b"Two tags and one that is no good image\n",
+        &TRUNCATED,
+        &[86u64; 3],
+    );
+    on_crate(b"Seventeen tags\n", &TRUNCATED, &[86u64; 17]);
+    on_crate(
+        b"Two tags of which one is too long\n",
+        &TRUNCATED,
+        &[2049u64; 2],
+    );
+}
+
 fn main() {
     on_sample(b"A false header with a real frame inside\n", &FALSE_HEADER);
     on_sample(b"A command that breaks off\n", &TRUNCATED);
@@ -71,4 +98,5 @@ fn main() {
     );
     long_inputs();
     long_report();
+    crates();
 }

@@ -1,6 +1,4 @@
 // The program of document 01: reads commands.bin and tag.img from the folder that it is run in, and prints the report.
-mod files;
-
 use files::read_file;
 
 // Each buffer has room for more than a file may have, so that one that is too long is seen to be.
@@ -12,5 +10,6 @@ fn main() {
     let readable = first.readable && second.readable;
     let length = first.length;
     let size = second.length;
-    console::print(readable, &commands[..length], &mut image[..size]);
+    let sizes = [size as u64; 1];
+    console::print(readable, &commands[..length], &mut image[..size], &sizes);
 }

@@ -1,6 +1,7 @@
 // Runs every published command on each image that must give one of its published answers, and prints the answer under the heading of the
 // source. The stored output was written from the source: it is the published frames.
 use libc::STDOUT_FILENO;
+use population::places::Place;
 use report::writing::Progress;
 use report::writing::write;
 
@@ -11,12 +12,18 @@ mod tags;
 fn run(heading: &[u8], tag: [u8; 86], command: &[u8]) {
     let mut image = tag;
     let mut output = [0u8; 136];
+    let mut selection = [0u8; 39];
     let mut line = [0u8; 408];
+    let mut places = [Place { from: 0, size: 0 }; 16];
+    places[0] = Place { from: 0, size: 86 };
     let written = write(
         command,
         &mut image,
         &mut output,
+        &mut selection,
         &mut line,
+        places,
+        1,
         Progress::start(),
     );
     let used = written.used;
@@ -124,7 +131,16 @@ fn kill() {
     );
 }
 
+fn select() {
+    run(
+        b"0x0C Set Select, Success Response\n",
+        tags::sample(),
+        &commands::SET_SELECT,
+    );
+}
+
 fn main() {
+    select();
     inventory();
     read();
     write_words();

@@ -5,21 +5,16 @@ use mathlib.Core.Bool.{Bool}
 use mathlib.Core.List.{List}
 use mathlib.Core.Path.{_≡_, ap, sym, subst, _∙_}
 use native.Mathlib.Omega.{arith}
-use Rattle.bench.proofs.Answering.{framed}
-use Rattle.bench.proofs.Steps.{step-cases}
-use Rattle.bench.specs.Calls.{stepOf}
-use Rattle.bench.specs.Machine.{stateOf}
-use Rattle.bench.specs.Machine.{State, Call, call, Step, numberOf, unchanged, dropped, answered, actIn, restOf, step}
-use Rattle.bench.specs.declared.calling.Called.{Called}
+use Rattle.bench.specs.Machine.{numberOf}
 use Rattle.bench.specs.declared.outcome.Outcome.{Outcome}
 use Rattle.bench.specs.declared.outcome.Outcome.the-variants.{Answered}
-use Rattle.reader.specs.declared.tally.Tally.{Tally}
-use Rattle.frame.proofs.FrameBytes.{length-frame}
+use Rattle.calls.proofs.Claimed.{answer-is-one-frame}
+use Rattle.calls.specs.Calls.{selectionIn, stepOf}
+use Rattle.calls.specs.Machine.{State, stateOf, Call, call, Step, step}
+use Rattle.calls.specs.declared.calling.Called.{Called}
 use Rattle.frame.specs.Bytes.{byte}
-use Rattle.frame.specs.Frames.{frameOf}
-use Rattle.tag.specs.Answers.{answer}
-use Rattle.tag.specs.declared.commands.Act.{Act}
-use Rattle.tag.specs.declared.commands.Act.the-variants.{PlainError, TagError, Notify, Give, Store, Set}
+use Rattle.population.specs.declared.places.Place.{Place}
+use Rattle.reader.specs.declared.tally.Tally.{Tally}
 use Rattle.report.specs.Lines.{dropLine, countsLine, lineFor, lineOf, ends}
 use Rattle.report.specs.Writing.{Line, Framed, Printable, Printed, OneLine}
 use Rattle.report.specs.declared.writing.Room.the-variants.{Enough}
@@ -38,35 +33,16 @@ module _ {at next : ℕ} {before after : List ℕ} where
 
 -- ---- the frame of an answer
 
-frame-some : (type code : ℕ) (p : List ℕ) → 0 < length (frameOf type code p)
-frame-some type code p = omega (arith, length-frame type code p)
-
-answer-some : (image : List ℕ) (act : Act) → 0 < length (answer image act)
-unfolding answer
-answer-some image (PlainError e) = frame-some _ _ _
-answer-some image (TagError e) = frame-some _ _ _
-answer-some image Notify = frame-some _ _ _
-answer-some image (Give at n) = frame-some _ _ _
-answer-some image (Store at) = frame-some _ _ _
-answer-some image (Set code at count value) = frame-some _ _ _
-
 step-framed : (c : Call) (s : State) → step c s .outcome ≡ Answered → Framed (step c s .length) (length (step c s .next .output))
-unfolding unchanged dropped answered numberOf
-step-framed c s =
-    step-cases c s (λ (x : Step). x .outcome ≡ Answered → Framed (x .length) (length (x .next .output)))
-    (λ o m n e. absurd (m (ap numberOf e)))
-    (λ r why found some e. absurd (omega (arith, ap numberOf e)))
-    (λ r pl a e.
-    let f = framed c s r pl a in
-    record {
-      some = answer-some (s .image) (actIn s (restOf c s));
-      at-most-136 = f .at-most-136;
-      there = omega (arith, f .at-most-136, f .room-stays, r .room);
-    })
+unfolding numberOf
+step-framed c s e =
+    let f = answer-is-one-frame c s (ap numberOf e) in
+    record { some = f .some; at-most-136 = f .at-most-136; there = f .in-the-output }
 
 -- ---- what is known of a call that was made
 
-module _ (input : List ℕ) (s : State) (r : Called) (image output : List ℕ) (made : stepOf r image output ≡ step (call input) s) where
+module _ (input : List ℕ) (s : State) (r : Called) (memory : List ℕ) (places : List Place) (tags : ℕ) (bytes output : List ℕ)
+    (made : stepOf r memory places tags bytes output ≡ step (call input) s) where
   pub called-printable : (buffer : List ℕ) (at : ℕ) → at + 408 ≤ length buffer → Printable r output buffer at
   called-printable buffer at room =
       record {
@@ -76,8 +52,8 @@ module _ (input : List ℕ) (s : State) (r : Called) (image output : List ℕ) (
       }
 
   pub called-line : (at : ℕ) (before after : List ℕ) (next : ℕ) (over : Bool) → Printed input (s .reader .cursor) r output at before after next → over ≡ ends (r .outcome)
-      → OneLine input s at before after (stateOf image output (r .reader))
-      record { room = Enough; used = next; progress = record { reader = r .reader; over = over } }
+      → OneLine input s at before after (stateOf memory places tags (selectionIn bytes (r .count)) output (r .reader) (r .next))
+      record { room = Enough; used = next; progress = record { reader = r .reader; next = r .next; count = r .count; over = over } }
   unfolding lineOf
   called-line at before after next over line last =
       record {

@@ -1,12 +1,13 @@
 -- A proof of every statement on the claims page, specs/Claims.antt, in its order.
 use Rattle.report.proofs.Counted as Counted
 use Rattle.report.proofs.Decimals as Decimals
+use Rattle.report.proofs.Laid as Laid
 use Rattle.report.proofs.LinesOfCalls as LinesOfCalls
 use Rattle.report.proofs.NotRun as NotRun
 use Rattle.report.proofs.Sampled as Sampled
 use Rattle.report.proofs.Together as Together
 use Rattle.report.proofs.Whole as Whole
-use Rattle.report.specs.Claims.{SampleReport, SampleImage, EmptyImage, TooLongReport, UnreadableReport, NoticeAlone, RunPrinted, HexDigits, OneDigit, MoreDigits, FrameLines, DropLines, CountLines, CountsInOrder, RefusedLines, LineByLine, GoodImageReport, BadImageReport, CountsAreLines, BytesAddUp, PieceByPiece, ShortBuffer, NothingLeft, PiecesAreTheReport, EnoughPieces}
+use Rattle.report.specs.Claims.{SampleReport, SampleImage, EmptyImage, EmptyCrate, GoodFiles, TooLongReport, LongFiles, UnreadableReport, NoticeAlone, RunPrinted, HexDigits, OneDigit, MoreDigits, FrameLines, DropLines, CountLines, CountsInOrder, RefusedLines, LineByLine, GoodCrateReport, BadCrateReport, CountsAreLines, BytesAddUp, PieceByPiece, ShortBuffer, NothingLeft, PiecesAreTheReport, EnoughPieces}
 
 pub sample-report : SampleReport
 sample-report = Sampled.sample-report
@@ -17,8 +18,17 @@ sample-image = Sampled.sample-image
 pub empty-image : EmptyImage
 empty-image = Sampled.empty-image
 
+pub empty-crate : EmptyCrate
+empty-crate = Sampled.empty-crate
+
+pub good-files : GoodFiles
+good-files = Laid.good-files
+
 pub too-long-report : TooLongReport
 too-long-report = Whole.too-long-report
+
+pub long-files : LongFiles
+long-files = NotRun.long-files
 
 pub unreadable-report : UnreadableReport
 unreadable-report = NotRun.unreadable-report
@@ -56,11 +66,11 @@ refused-lines = LinesOfCalls.refused-lines
 pub line-by-line : LineByLine
 line-by-line = Whole.line-by-line
 
-pub good-image-report : GoodImageReport
-good-image-report = Whole.good-image-report
+pub good-crate-report : GoodCrateReport
+good-crate-report = Whole.good-crate-report
 
-pub bad-image-report : BadImageReport
-bad-image-report = Whole.bad-image-report
+pub bad-crate-report : BadCrateReport
+bad-crate-report = Whole.bad-crate-report
 
 pub counts-are-lines : CountsAreLines
 counts-are-lines = Counted.counts-are-lines

@@ -1,24 +1,32 @@
 -- The counts that the report prints: the lines before them, and the bytes of the input.
 use Prim.Native.Nat.{ℕ, zero, suc, _+_, _-_, _≤_}
+use borrow.Author.Tests.{ne-eqb}
 use lib.Dec.{eqb}
-use lib.ListN.{length, drop, replicate, length-drop}
-use mathlib.Core.Bool.{Bool, true, false, not, _&&_}
+use lib.ListN.{length, drop, replicate}
+use mathlib.Core.Bool.{Bool, true, false, not, _&&_, true≢false}
 use mathlib.Core.List.{List, [], _∷_}
 use mathlib.Core.Logic.{_≢_}
-use mathlib.Core.Path.{_≡_, refl, ap}
+use mathlib.Core.Path.{_≡_, refl, ap, sym, _∙_}
 use native.Mathlib.Omega.{arith}
-use Rattle.bench.proofs.Answering.{framed}
-use Rattle.bench.proofs.Claimed.{history}
-use Rattle.bench.proofs.Steps.{step-cases}
-use Rattle.bench.specs.Claims.{count, isGood, isError, isDropped}
-use Rattle.bench.specs.Machine.{State, call, Step, numberOf, reasonOf, unchanged, dropped, answered, inputOf, restOf, step, run, after}
+use Rattle.bench.specs.Machine.{numberOf, reasonOf}
 use Rattle.bench.specs.declared.outcome.Outcome.{Outcome}
 use Rattle.bench.specs.declared.outcome.Outcome.the-variants.{Answered, AtEnd, Incomplete, Dropped, PastEnd, BadImage, ShortOutput, FullTally}
-use Rattle.frame.specs.Finding.{reasonNumber}
-use Rattle.frame.specs.declared.finding.Reason.the-variants.{NoHeader, WrongType, TooLong, WrongCheck, WrongEnd}
-use Rattle.reader.specs.declared.tally.Tally.{Tally}
+use Rattle.calls.proofs.Claimed.{history, answer-is-one-frame, nothing-changes, drop-takes-one-byte}
+use Rattle.calls.proofs.Framing.{never-past}
+use Rattle.calls.specs.Claims.{count, isGood, isError, isDropped}
+use Rattle.calls.specs.Machine.{State, call, Step, waiting, inputOf, restOf, step, run, after}
+use Rattle.calls.specs.Secrecy.{isNone}
+use Rattle.frame.proofs.Picks.{pick-true, pick-false}
+use Rattle.frame.proofs.Tests.{either}
 use Rattle.frame.specs.Bytes.{pick, byte, number}
-use Rattle.report.specs.Claims.{isFrame, isDrop, CountsAreLines, tookBy, took, BytesAddUp}
+use Rattle.frame.specs.Finding.{reasonNumber}
+use Rattle.frame.specs.declared.finding.Reason.{Reason}
+use Rattle.frame.specs.declared.finding.Reason.the-variants.{NoHeader, WrongType, TooLong, WrongCheck, WrongEnd}
+use Rattle.population.specs.declared.lowest.Lowest.{Lowest}
+use Rattle.population.specs.declared.lowest.Lowest.the-variants.{NoTag, Tag}
+use Rattle.population.specs.declared.places.Place.{Place}
+use Rattle.reader.specs.declared.tally.Tally.{Tally}
+use Rattle.report.specs.Claims.{isFrame, isDrop, CountsAreLines, tookBy, handsOut, took, BytesAddUp}
 use Rattle.report.specs.Report.{fresh}
 
 -- ---- the lines
@@ -63,10 +71,10 @@ reasons (x ∷ all) = omega (arith, reasons all, one-reason (x .outcome))
 
 pub counts-are-lines : CountsAreLines
 unfolding fresh
-counts-are-lines k commands image =
+counts-are-lines k commands memory sizes =
     let calls = replicate k (call commands) in
-    let h = history calls (fresh image) in (
-      omega (arith, ap (λ (t : Tally). t .good) h, ap (λ (t : Tally). t .error) h, frames (run calls (fresh image))),
+    let h = history calls (fresh memory sizes) in (
+      omega (arith, ap (λ (t : Tally). t .good) h, ap (λ (t : Tally). t .error) h, frames (run calls (fresh memory sizes))),
       omega (
         arith,
         ap (λ (t : Tally). t .header) h,
@@ -74,7 +82,7 @@ counts-are-lines k commands image =
         ap (λ (t : Tally). t .long) h,
         ap (λ (t : Tally). t .check) h,
         ap (λ (t : Tally). t .end) h,
-        reasons (run calls (fresh image)),
+        reasons (run calls (fresh memory sizes)),
       ),
     )
 
@@ -91,30 +99,71 @@ took-none BadImage not0 not3 pl = refl
 took-none ShortOutput not0 not3 pl = refl
 took-none FullTally not0 not3 pl = refl
 
-module _ (input : List ℕ) where
-  -- the cursor moves over what a call takes, and never past the end
-  record Over (s : State) (x : Step) : Type 0 where
-    moved : x .next .reader .cursor ≡ s .reader .cursor + tookBy (x .outcome) (number (drop (s .reader .cursor) input) 3)
-    within : s .reader .cursor ≤ length input → x .next .reader .cursor ≤ length input
+-- a tag that waits is handed out, and no byte taken
+is-one : (w : Lowest) → isNone w ≡ false → (n : ℕ) × (p : Place) × (w ≡ Tag n p)
+unfolding isNone
+is-one NoTag h = absurd (true≢false h)
+is-one (Tag n p) h = (n, p, refl)
 
-  over : (s : State) → Over s (step (call input) s)
-  unfolding unchanged dropped answered numberOf tookBy restOf inputOf
-  over s =
-      step-cases (call input) s (λ (x : Step). Over s x)
-      (λ o m n. record { moved = omega (arith, took-none o m n (number (drop (s .reader .cursor) input) 3)); within = λ h. h })
-      (λ r why found some. record { moved = refl; within = λ h. omega (arith, length-drop (s .reader .cursor) input) })
-      (λ r pl a.
-      let f = framed (call input) s r pl a in
-      record { moved = f .over-the-command; within = λ h. f .not-past-the-end })
+is-none : (w : Lowest) → isNone w ≡ true → w ≡ NoTag
+unfolding isNone
+is-none NoTag h = refl
+is-none (Tag n p) h = absurd (true≢false (sym h))
+
+module _ (input : List ℕ) where
+  -- the cursor moves over what a call takes
+  abbrev Moved : State → Step → Type 0
+  Moved s x = x .next .reader .cursor ≡ s .reader .cursor + pick (handsOut s x) 0 (tookBy (x .outcome) (number (drop (s .reader .cursor) input) 3))
+
+  moved-as : (s : State) (o : Outcome) → step (call input) s .outcome ≡ o
+      → step (call input) s .next .reader .cursor ≡ s .reader .cursor + pick (eqb (numberOf o) 0 && not (isNone (waiting s))) 0 (tookBy o (number (drop (s .reader .cursor) input) 3))
+      → Moved s (step (call input) s)
+  unfolding handsOut
+  moved-as s o e h = rw e h
+
+  answers : (s : State) → step (call input) s .outcome ≡ Answered → Moved s (step (call input) s)
+  unfolding numberOf tookBy restOf inputOf
+  answers s e =
+      let f = answer-is-one-frame (call input) s (ap numberOf e) in
+      moved-as s Answered e
+      (either (isNone (waiting s))
+      (λ none. simp (none, pick-false) (f .over-the-command (is-none (waiting s) none)))
+      (λ one.
+      let tag = is-one (waiting s) one in
+      simp (one, pick-true) (omega (arith, f .stays-with-a-tag (tag .0) (tag .1) (tag .2)))))
+
+  drops-one : (s : State) (r : Reason) → step (call input) s .outcome ≡ Dropped r → Moved s (step (call input) s)
+  unfolding numberOf tookBy
+  drops-one s r e =
+      let d = drop-takes-one-byte (call input) s (ap numberOf e) .1 in
+      moved-as s (Dropped r) e (simp pick-false (ap (λ (t : State). t .reader .cursor) d))
+
+  stays-put : (s : State) (o : Outcome) → step (call input) s .outcome ≡ o → numberOf o ≢ 0 → numberOf o ≢ 3 → Moved s (step (call input) s)
+  stays-put s o e not0 not3 =
+      let still = nothing-changes (call input) s (λ h. not0 (sym (ap numberOf e) ∙ h)) (λ h. not3 (sym (ap numberOf e) ∙ h)) .0 in
+      moved-as s o e
+      (rw (ne-eqb (numberOf o) 0 not0, pick-false, took-none o not0 not3 (number (drop (s .reader .cursor) input) 3))
+      (omega (arith, ap (λ (t : State). t .reader .cursor) still)))
+
+  moved : (s : State) (o : Outcome) → step (call input) s .outcome ≡ o → Moved s (step (call input) s)
+  unfolding numberOf
+  moved s Answered e = answers s e
+  moved s (Dropped r) e = drops-one s r e
+  moved s AtEnd e = stays-put s AtEnd e (omega arith) (omega arith)
+  moved s Incomplete e = stays-put s Incomplete e (omega arith) (omega arith)
+  moved s PastEnd e = stays-put s PastEnd e (omega arith) (omega arith)
+  moved s BadImage e = stays-put s BadImage e (omega arith) (omega arith)
+  moved s ShortOutput e = stays-put s ShortOutput e (omega arith) (omega arith)
+  moved s FullTally e = stays-put s FullTally e (omega arith) (omega arith)
 
   all-over : (k : ℕ) (s : State) → s .reader .cursor ≤ length input
       → took input s (run (replicate k (call input)) s) + (length input - after (replicate k (call input)) s .reader .cursor) ≡ length input - s .reader .cursor
-  unfolding took run after
+  unfolding took run after inputOf
   all-over zero s h = omega arith
   all-over (suc k) s h =
-      let o = over s in
-      omega (arith, all-over k (step (call input) s .next) (o .within h), o .moved, o .within h)
+      let within = never-past (call input) s h in
+      omega (arith, all-over k (step (call input) s .next) within, moved s (step (call input) s .outcome) refl, within)
 
 pub bytes-add-up : BytesAddUp
 unfolding fresh
-bytes-add-up k commands image = omega (arith, all-over commands k (fresh image) (omega arith))
+bytes-add-up k commands memory sizes = omega (arith, all-over commands k (fresh memory sizes) (omega arith))

@@ -4,6 +4,7 @@ pub mod Counted
 pub mod Decimals
 pub mod Fitting
 pub mod HexPuts
+pub mod Laid
 pub mod LinePuts
 pub mod LinesOfCalls
 pub mod NotRun

@@ -6,9 +6,10 @@ use mathlib.Core.List.{List, [], _∷_, _++_, append-assoc}
 use mathlib.Core.Logic.{_≢_, ⊎-elim}
 use mathlib.Core.Path.{_≡_, refl, ap, sym, _∙_}
 use native.Mathlib.Omega.{arith}
-use Rattle.bench.proofs.Claimed.{nothing-changes, answer-is-one-frame}
-use Rattle.bench.specs.Claims.{answerOf}
-use Rattle.bench.specs.Machine.{State, call, Step, numberOf, step}
+use Rattle.calls.proofs.Claimed.{nothing-changes}
+use Rattle.calls.specs.Claims.{answerOf}
+use Rattle.bench.specs.Machine.{numberOf}
+use Rattle.calls.specs.Machine.{State, call, Step, step}
 use Rattle.bench.specs.declared.outcome.Outcome.{Outcome}
 use Rattle.bench.specs.declared.outcome.Outcome.the-variants.{Answered, AtEnd, Incomplete, Dropped, PastEnd, BadImage, ShortOutput, FullTally}
 use Rattle.reader.specs.declared.tally.Tally.{Tally}
@@ -64,7 +65,7 @@ of-refused frame b t left Incomplete h = absurd (omega arith)
 
 pub frame-lines : FrameLines
 unfolding lineFor outcomeOf pick
-frame-lines input s answered = line-as input s 0 answered ∙ ap frameLine (answer-is-one-frame (call input) s answered .frame-first)
+frame-lines input s answered = line-as input s 0 answered
 
 pub drop-lines : DropLines
 unfolding lineFor outcomeOf pick

@@ -5,9 +5,10 @@ use mathlib.Core.Bool.{true, false, not}
 use mathlib.Core.List.{List, [], _∷_, _++_}
 use mathlib.Core.Path.{_≡_, refl, ap, sym, _∙_}
 use native.Mathlib.Omega.{arith}
-use Rattle.bench.proofs.Claimed.{work-falls}
-use Rattle.bench.specs.Claims.{takes}
-use Rattle.bench.specs.Machine.{State, call, Step, numberOf, step, work}
+use Rattle.calls.proofs.Claimed.{work-falls}
+use Rattle.calls.specs.Claims.{takes}
+use Rattle.bench.specs.Machine.{numberOf}
+use Rattle.calls.specs.Machine.{State, call, Step, step, work}
 use Rattle.bench.specs.declared.outcome.Outcome.{Outcome}
 use Rattle.bench.specs.declared.outcome.Outcome.the-variants.{Answered, AtEnd, Incomplete, Dropped, PastEnd, BadImage, ShortOutput, FullTally}
 use Rattle.frame.proofs.Picks.{pick-true, pick-false}

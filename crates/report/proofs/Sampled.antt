@@ -1,15 +1,15 @@
--- What is computed: document 01's sample report and the image behind it, and the report on an empty image.
+-- What is computed: document 01's sample report and the image behind it, and the reports on an empty image and on no tag.
 use mathlib.Core.Path.{refl}
-use Rattle.bench.proofs.Computed.{everything}
-use Rattle.bench.specs.Machine.{work, after}
-use Rattle.report.specs.Claims.{SampleReport, SampleImage, EmptyImage}
+use Rattle.calls.proofs.Computed.{opened as machine}
+use Rattle.calls.specs.Machine.{bytesLeft, tagsLeft, work, after}
+use Rattle.report.specs.Claims.{SampleReport, SampleImage, EmptyImage, EmptyCrate}
 use Rattle.report.specs.Digits.{hexDigit, hexByte, widthBy, width, digits, decimal}
 use Rattle.report.specs.Lines.{dropWord, goodWord, errorWord, droppedWord, spaceWord, leftWord, refusedWord, tooLongLine, dropLine, separator, frameLine, countPart, twoCounts, tallyPart, countsLine, refusedLine, lineFor, lineOf, ends}
-use Rattle.report.specs.Report.{stepsBy, steps, stepsFrom, linesOf, reportFrom, lastState, tooLong, fresh, reportOf}
+use Rattle.report.specs.Report.{stepsBy, steps, stepsFrom, linesOf, reportFrom, lastState, anyLong, tooLong, placeIn, laidOut, placesOf, fresh, reportOf}
 
 -- all that the report is made of beside the machine, opened at once
 opened : Unit {0}
-unfolding everything work hexDigit hexByte widthBy width digits decimal dropWord goodWord errorWord droppedWord spaceWord leftWord refusedWord tooLongLine dropLine separator frameLine countPart twoCounts tallyPart countsLine refusedLine lineFor lineOf ends stepsBy steps stepsFrom linesOf reportFrom tooLong fresh reportOf
+unfolding machine bytesLeft tagsLeft work hexDigit hexByte widthBy width digits decimal dropWord goodWord errorWord droppedWord spaceWord leftWord refusedWord tooLongLine dropLine separator frameLine countPart twoCounts tallyPart countsLine refusedLine lineFor lineOf ends stepsBy steps stepsFrom linesOf reportFrom anyLong tooLong placeIn laidOut placesOf fresh reportOf
 opened = tt
 
 pub sample-report : SampleReport
@@ -23,3 +23,7 @@ sample-image = refl
 pub empty-image : EmptyImage
 unfolding opened
 empty-image = refl
+
+pub empty-crate : EmptyCrate
+unfolding opened
+empty-crate = refl

@@ -1,17 +1,18 @@
 -- Pieces one behind the other are the report, and the claims on the report in pieces.
-use Prim.Native.Nat.{ℕ, zero, suc, _-_, _≤_}
+use Prim.Native.Nat.{ℕ, zero, suc, _+_, _-_, _*_, _/_, _≤_}
 use borrow.Author.Tests.{eq-eqb}
 use lib.ListN.{length, replicate}
 use mathlib.Core.Bool.{Bool, true, false}
 use mathlib.Core.List.{List, [], _∷_, _++_, append-assoc, append-nil}
 use mathlib.Core.Path.{_≡_, refl, ap, sym, _∙_}
+use native.Mathlib.Nat.{sub-zero}
 use native.Mathlib.Omega.{arith}
-use Rattle.bench.specs.Machine.{State, call, Step, step, work, after}
+use Rattle.calls.specs.Machine.{State, call, Step, step, bytesLeft, tagsLeft, work, after}
 use Rattle.frame.proofs.Picks.{by-test, pick-false}
 use Rattle.frame.proofs.Tests.{either}
 use Rattle.report.proofs.Fitting.{over-is, no-room, piece-over, no-piece, splits, same-last, some}
 use Rattle.report.proofs.Reports.{none-left, report-over}
-use Rattle.report.proofs.Whole.{report-is}
+use Rattle.report.proofs.Whole.{report-is, none-waits}
 use Rattle.report.specs.Claims.{PieceByPiece, ShortBuffer, NothingLeft, PiecesAreTheReport, EnoughPieces}
 use Rattle.report.specs.Lines.{ends}
 use Rattle.report.specs.Pieces.{pieceOf, leftBy, overBy, pieces}
@@ -66,19 +67,24 @@ pub nothing-left : NothingLeft
 nothing-left input room s = no-piece input room true s (piece-over input room s)
 
 pub pieces-are-the-report : PiecesAreTheReport
-pieces-are-the-report commands image rooms short ended =
-    let s : State = fresh image in
+pieces-are-the-report commands memory sizes rooms short ended =
+    let s : State = fresh memory sizes in
     let p = pieces commands rooms false s in (
       sym (append-nil (p .bytes))
           ∙ ap (λ (l : List ℕ). p .bytes ++ l) (sym (report-over commands (p .state)))
           ∙ ap (λ (b : Bool). p .bytes ++ reportFrom commands b (p .state)) (sym ended)
           ∙ all-bytes commands rooms false s
-          ∙ sym (report-is commands image short),
+          ∙ sym (report-is commands memory sizes short),
       sym (last-is commands (p .state)) ∙ ap (λ (b : Bool). lastState commands b (p .state)) (sym ended) ∙ all-steps commands rooms false s,
     )
 
+work-at-start : (commands memory sizes : List ℕ) → work commands (fresh memory sizes) ≡ length commands + 15 * (length commands / 7)
+unfolding fresh work bytesLeft tagsLeft
+work-at-start commands memory sizes = rw (none-waits memory sizes, sub-zero) (omega arith)
+
 pub enough-pieces : EnoughPieces
-unfolding fresh stepsFrom steps work
-enough-pieces commands image room h =
-    enough-by commands (suc (length commands)) room false (fresh image) h
-    (rw pick-false (omega (arith, steps-few (suc (length commands - 0)) commands (fresh image))))
+unfolding stepsFrom steps
+enough-pieces commands memory sizes room h =
+    enough-by commands (suc (length commands + 15 * (length commands / 7))) room false (fresh memory sizes) h
+    (rw (pick-false)
+    (omega (arith, steps-few (suc (work commands (fresh memory sizes))) commands (fresh memory sizes), work-at-start commands memory sizes)))

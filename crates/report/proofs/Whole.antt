@@ -1,5 +1,5 @@
 -- The whole report: lines of calls that take bytes, then one line that ends it.
-use Prim.Native.Nat.{ℕ, zero, suc, _+_, _≤_}
+use Prim.Native.Nat.{ℕ, zero, suc, _+_, _*_, _≤_}
 use borrow.Author.Tests.{ltb-false, le-ltb}
 use lib.Dec.{ltb}
 use lib.ListN.{length, replicate}
@@ -8,19 +8,26 @@ use mathlib.Core.List.{List, _++_, append-assoc, append-nil}
 use mathlib.Core.Logic.{_⊎_, ⊎-elim}
 use mathlib.Core.Path.{_≡_, refl, ap, sym, _∙_}
 use native.Mathlib.Omega.{arith}
-use Rattle.bench.proofs.Claimed.{bound}
-use Rattle.bench.specs.Claims.{answerOf, count, takes}
-use Rattle.bench.specs.Machine.{State, call, Step, numberOf, unchanged, decide, carriedOut, inputOf, step, run, after}
+use Rattle.calls.proofs.Claimed.{bound}
+use Rattle.calls.specs.Claims.{answerOf, count, takes}
+use Rattle.bench.specs.Machine.{numberOf}
+use Rattle.calls.specs.Machine.{State, call, Step, waiting, unchanged, decide, carriedOut, inputOf, step, run, after}
 use Rattle.bench.specs.declared.outcome.Outcome.{Outcome}
 use Rattle.bench.specs.declared.outcome.Outcome.the-variants.{Answered, AtEnd, Incomplete, Dropped, PastEnd, BadImage, ShortOutput, FullTally}
 use Rattle.frame.proofs.Picks.{by-test, pick-true, pick-false}
 use Rattle.frame.proofs.Tests.{either, or-neither}
+use Rattle.frame.specs.Bytes.{pick}
+use Rattle.population.proofs.Firsts.{first-none}
+use Rattle.population.specs.Lowest.{lowest}
+use Rattle.population.specs.Places.{goodPopulation}
+use Rattle.population.specs.Selections.{goodSelection}
+use Rattle.population.specs.declared.lowest.Lowest.{Lowest}
+use Rattle.population.specs.declared.lowest.Lowest.the-variants.{NoTag}
 use Rattle.report.proofs.LinesOfCalls.{count-lines, refused-lines}
 use Rattle.report.proofs.Reports.{ends-is, report-over, report-more}
-use Rattle.report.specs.Claims.{TooLongReport, LineByLine, GoodImageReport, BadImageReport}
+use Rattle.report.specs.Claims.{TooLongReport, LineByLine, GoodCrateReport, BadCrateReport}
 use Rattle.report.specs.Lines.{refusedLine, lineOf, ends}
-use Rattle.report.specs.Report.{linesOf, reportFrom, tooLong, fresh, reportOf}
-use Rattle.image.specs.Image.{good}
+use Rattle.report.specs.Report.{linesOf, reportFrom, anyLong, tooLong, placesOf, fresh, reportOf}
 
 pub line-by-line : LineByLine
 line-by-line input s =
@@ -75,52 +82,59 @@ module _ (input : List ℕ) where
 
 pub too-long-report : TooLongReport
 unfolding reportOf
-too-long-report commands image h = simp (h, pick-true)
+too-long-report commands memory sizes h = simp (h, pick-true)
 
 -- a call answered 1 or 2 takes no bytes
 ends-by : (x : Step) → (numberOf (x .outcome) ≡ 1) ⊎ (numberOf (x .outcome) ≡ 2) → takes x ≡ false
 unfolding takes
 ends-by x = ⊎-elim (λ one. simp one) (λ two. simp two)
 
-module _ (commands image : List ℕ) (short : tooLong (length commands) (length image) ≡ false) where
-  pub report-is : reportOf commands image ≡ reportFrom commands false (fresh image)
+module _ (commands memory sizes : List ℕ) (short : tooLong (length commands) sizes ≡ false) where
+  pub report-is : reportOf commands memory sizes ≡ reportFrom commands false (fresh memory sizes)
   unfolding reportOf
   report-is = simp (short, pick-false)
 
   few-bytes : length commands ≤ 32768
   unfolding tooLong
-  few-bytes = ltb-false 32768 (length commands) (or-neither (ltb 32768 (length commands)) (ltb 2048 (length image)) short .0)
+  few-bytes = ltb-false 32768 (length commands) (or-neither (ltb 32768 (length commands)) (anyLong sizes) short .0)
 
-pub good-image-report : GoodImageReport
-unfolding fresh
-good-image-report commands image short h =
-    let b = bound commands image (replicate 136 0) (omega (arith, few-bytes commands image short)) h (omega arith) in
-    let s : State = after (replicate (b .0) (call commands)) (fresh image) in (
+-- the program begins with no tag to hand out
+pub none-waits : (memory sizes : List ℕ) → waiting (fresh memory sizes) ≡ NoTag
+unfolding waiting fresh lowest
+none-waits memory sizes =
+    by-test (λ (w : Lowest). w ≡ NoTag) (ltb 16 (length sizes)) (λ _. refl) (λ few. first-none _ _ 16 (length sizes) (ltb-false 16 (length sizes) few))
+
+pub good-crate-report : GoodCrateReport
+unfolding fresh goodSelection pick
+good-crate-report commands memory sizes short h =
+    let b = bound commands (fresh memory sizes) (omega (arith, few-bytes commands memory sizes short)) refl refl h (omega arith) (none-waits memory sizes) in
+    let s : State = after (replicate (b .0) (call commands)) (fresh memory sizes) in (
       b .0,
       b .1,
       b .2,
-      report-is commands image short
-          ∙ whole commands (b .0) (fresh image) (b .2) (ends-by (step (call commands) s) (b .3))
-          ∙ ap (λ (l : List ℕ). linesOf commands (fresh image) (run (replicate (b .0) (call commands)) (fresh image)) ++ l) (count-lines commands s (b .3)),
+      report-is commands memory sizes short
+          ∙ whole commands (b .0) (fresh memory sizes) (b .2) (ends-by (step (call commands) s) (b .3))
+          ∙ ap (λ (l : List ℕ). linesOf commands (fresh memory sizes) (run (replicate (b .0) (call commands)) (fresh memory sizes)) ++ l) (count-lines commands s (b .3)),
     )
 
-bad-step : (commands image : List ℕ) → good image ≡ false → step (call commands) (fresh image) ≡ unchanged (fresh image) BadImage
-unfolding step decide carriedOut inputOf fresh
-bad-step commands image h = simp (le-ltb (length commands) 0 (omega arith), h, pick-true, pick-false)
+bad-step : (commands memory sizes : List ℕ) → goodPopulation memory (length sizes) (placesOf sizes) ≡ false
+    → step (call commands) (fresh memory sizes) ≡ unchanged (fresh memory sizes) BadImage
+unfolding step decide carriedOut inputOf fresh goodSelection
+bad-step commands memory sizes h = simp (le-ltb (length commands) 0 (omega arith), h, pick-true, pick-false)
 
-bad-answer : (commands image : List ℕ) → good image ≡ false → answerOf (call commands) (fresh image) ≡ 11
+bad-answer : (commands memory sizes : List ℕ) → goodPopulation memory (length sizes) (placesOf sizes) ≡ false → answerOf (call commands) (fresh memory sizes) ≡ 11
 unfolding unchanged numberOf
-bad-answer commands image h = ap (λ (x : Step). numberOf (x .outcome)) (bad-step commands image h)
+bad-answer commands memory sizes h = ap (λ (x : Step). numberOf (x .outcome)) (bad-step commands memory sizes h)
 
 refuses : (x : Step) → numberOf (x .outcome) ≡ 11 → takes x ≡ false
 unfolding takes
 refuses x e = simp e
 
-pub bad-image-report : BadImageReport
-bad-image-report commands image short h =
-    let s : State = fresh image in
-    let eleven : answerOf (call commands) s ≡ 11 = bad-answer commands image h in
-    report-is commands image short
+pub bad-crate-report : BadCrateReport
+bad-crate-report commands memory sizes short h =
+    let s : State = fresh memory sizes in
+    let eleven : answerOf (call commands) s ≡ 11 = bad-answer commands memory sizes h in
+    report-is commands memory sizes short
     ∙ only commands s (refuses (step (call commands) s) eleven)
     ∙ refused-lines commands s (omega arith)
     ∙ ap refusedLine eleven

@@ -3,10 +3,13 @@ use Prim.Native.Nat.{ℕ, zero, suc}
 use mathlib.Core.Bool.{Bool, false, _||_}
 use mathlib.Core.List.{List, [], _∷_, _++_}
 use lib.Dec.{ltb}
-use lib.ListN.{length, replicate}
-use Rattle.reader.specs.Readers.{freshReader}
-use Rattle.bench.specs.Machine.{State, stateOf, call, Step, step, work, after}
+use lib.ListN.{length, replicate, take, getD, set}
+use Rattle.calls.specs.Machine.{State, stateOf, call, Step, step, work, after}
 use Rattle.frame.specs.Bytes.{pick}
+use Rattle.frame.specs.Frames.{sum}
+use Rattle.population.specs.Places.{nowhere}
+use Rattle.population.specs.declared.places.Place.{Place}
+use Rattle.reader.specs.Readers.{freshReader}
 use Rattle.report.specs.Lines.{tooLongLine, unreadableLine, lineOf, ends}
 use Rattle.report.specs.declared.limits.Files.{Files}
 use Rattle.report.specs.declared.limits.Files.the-variants.{Unreadable, TooLong, Fit}
@@ -36,23 +39,39 @@ reportFrom input over s = linesOf input s (stepsFrom input over s)
 unfoldable pub lastState : List ℕ → Bool → State → State
 lastState input over s = after (replicate (length (stepsFrom input over s)) (call input)) s
 
--- "The program reads commands.bin and tag.img, at most 32,768 and 2,048 bytes; a longer file gives only `TOO LONG`"
-unfoldable pub tooLong : ℕ → ℕ → Bool
-tooLong commands image = ltb 32768 commands || ltb 2048 image
+-- "The program reads commands.bin and tag.img, at most 32,768 and 2,048 bytes; a longer file gives only `TOO LONG`": so it is with each file of a crate's
+-- tags, whose sizes are listed
+unfoldable pub anyLong : List ℕ → Bool
+anyLong [] = false
+anyLong (size ∷ sizes) = ltb 2048 size || anyLong sizes
 
--- where the program begins: an output of 136 bytes, cursor 0 and a fresh tally
-unfoldable pub fresh : List ℕ → State
-fresh image = stateOf image (replicate 136 0) freshReader
+unfoldable pub tooLong : ℕ → List ℕ → Bool
+tooLong commands sizes = ltb 32768 commands || anyLong sizes
 
-unfoldable pub reportOf : List ℕ → List ℕ → List ℕ
-reportOf commands image = pick (tooLong (length commands) (length image)) tooLongLine (reportFrom commands false (fresh image))
+-- The tags lie one behind the other in one memory: tag i begins behind the files before its own. Of more than sixteen the first sixteen have a place.
+unfoldable pub placeIn : List ℕ → ℕ → Place
+placeIn sizes i = record { from = sum (take i sizes); size = getD sizes i 0 }
+
+unfoldable pub laidOut : List ℕ → ℕ → List Place
+laidOut sizes zero = replicate 16 nowhere
+laidOut sizes (suc n) = set (laidOut sizes n) n (placeIn sizes n)
+
+unfoldable pub placesOf : List ℕ → List Place
+placesOf sizes = laidOut sizes (pick (ltb 16 (length sizes)) 16 (length sizes))
+
+-- where the program begins: an empty selection, an output of 136 bytes, cursor 0, a fresh tally, and no tag to hand out
+unfoldable pub fresh : List ℕ → List ℕ → State
+fresh memory sizes = stateOf memory (placesOf sizes) (length sizes) [] (replicate 136 0) freshReader 16
+
+unfoldable pub reportOf : List ℕ → List ℕ → List ℕ → List ℕ
+reportOf commands memory sizes = pick (tooLong (length commands) sizes) tooLongLine (reportFrom commands false (fresh memory sizes))
 
 -- ---- what the program prints
 
--- how its two files stand before a run. Document 01 counts a file that can't be opened as empty, and says nothing of one that opens and
--- can't be read to its end: that one is told first, whatever its length and that of the other.
-unfoldable pub filesOf : Bool → ℕ → ℕ → Files
-filesOf readable commands image = pick readable (pick (tooLong commands image) TooLong Fit) Unreadable
+-- how its files stand before a run. Document 01 counts a file that can't be opened as empty, and says nothing of one that opens and
+-- can't be read to its end: that one is told first, whatever its length and those of the others.
+unfoldable pub filesOf : Bool → ℕ → List ℕ → Files
+filesOf readable commands sizes = pick readable (pick (tooLong commands sizes) TooLong Fit) Unreadable
 
 -- the only line where they are not run
 unfoldable pub noticeOf : Files → List ℕ
@@ -60,5 +79,5 @@ noticeOf Unreadable = unreadableLine
 noticeOf TooLong = tooLongLine
 noticeOf Fit = []
 
-unfoldable pub printed : Bool → List ℕ → List ℕ → List ℕ
-printed readable commands image = pick readable (reportOf commands image) unreadableLine
+unfoldable pub printed : Bool → List ℕ → List ℕ → List ℕ → List ℕ
+printed readable commands memory sizes = pick readable (reportOf commands memory sizes) unreadableLine

@@ -5,13 +5,15 @@ use mathlib.Core.List.{List}
 use mathlib.Core.Path.{_≡_}
 use lib.Dec.{ltb}
 use lib.ListN.{length, take}
-use Rattle.reader.specs.Readers.{freshReader}
-use Rattle.bench.specs.Machine.{State, stateOf, call, step}
-use Rattle.bench.specs.declared.calling.Called.{Called}
 use Rattle.bench.specs.declared.outcome.Outcome.the-variants.{Answered}
+use Rattle.calls.specs.Calls.{selectionIn}
+use Rattle.calls.specs.Machine.{State, stateOf, call, step}
+use Rattle.calls.specs.declared.calling.Called.{Called}
 use Rattle.frame.specs.Putting.{Put}
 use Rattle.frame.specs.Bytes.{pick, byte}
 use Rattle.frame.specs.Frames.{written}
+use Rattle.population.specs.declared.places.Place.{Place}
+use Rattle.reader.specs.Readers.{freshReader}
 use Rattle.report.specs.Lines.{longestLine, lineFor, lineOf, ends}
 use Rattle.report.specs.Pieces.{pieceOf, leftBy, overBy}
 use Rattle.report.specs.Report.{linesOf}
@@ -45,11 +47,11 @@ Printed input cursor r output at before after next =
 -- ---- a piece of the report
 
 -- the state that a report goes on from
-abbrev pub stateAt : List ℕ → List ℕ → Progress → State
-stateAt image output p = stateOf image output (p .reader)
+abbrev pub stateAt : List ℕ → List Place → ℕ → List ℕ → List ℕ → Progress → State
+stateAt memory places tags bytes output p = stateOf memory places tags (selectionIn bytes (p .count)) output (p .reader) (p .next)
 
 abbrev pub started : Progress
-started = record { reader = freshReader; over = false }
+started = record { reader = freshReader; next = 16; count = 0; over = false }
 
 -- one call is made, its line stands at `at`, and the state is the one that the call leaves
 pub record OneLine (input : List ℕ) (s : State) (at : ℕ) (before after : List ℕ) (next : State) (r : Written) : Type 0 where
@@ -61,8 +63,8 @@ pub record OneLine (input : List ℕ) (s : State) (at : ℕ) (before after : Lis
 unfoldable pub roomIn : ℕ → Room
 roomIn room = pick (ltb room longestLine) TooShort Enough
 
--- What `write` comes to, in any buffer: the lines of the piece stand at its start, and what lies behind them stays. Image, output, cursor
--- and tally are those after as many calls as the piece has steps.
+-- What `write` comes to, in any buffer: the lines of the piece stand at its start, and what lies behind them stays. The state is the one after as many
+-- calls as the piece has steps.
 pub record Wrote (input before after : List ℕ) (s : State) (over : Bool) (next : State) (r : Written) : Type 0 where
   pub room-is : r .room ≡ roomIn (length before)
   pub used-is : r .used ≡ length (linesOf input s (pieceOf input (length before) over s))

@@ -1,10 +1,10 @@
-// What is tested of the program's two files before a run, and the report on files that are not run.
+// What is tested of the program's files before a run, and the report on files that are not run.
 use crate::lines::put_text;
 ghost use mathlib.Core.Path.{_≡_};
-ghost use Rattle.report.specs.Report.{tooLong, filesOf, noticeOf};
+ghost use Rattle.report.specs.Report.{anyLong, tooLong, filesOf, noticeOf};
 ghost use Rattle.report.specs.Writing.{Told};
 
-// How the two files stand before a run.
+// How the files stand before a run.
 pub enum Files {
     // One of them was opened and could not be read to its end.
     Unreadable,
@@ -13,23 +13,36 @@ pub enum Files {
     Fit,
 }
 
-// The lengths of the commands and of the image.
-pub fn too_long(commands: usize, image: usize) -> bool
-    ensures { λ r. ⌜ r ≡ tooLong commands image ⌝ }
+fn any_long(sizes: &[u64]) -> bool
+    ensures { λ r. ⌜ r ≡ anyLong (now (sizes .entry)) ⌝ }
+{
+    let mut i = 0;
+    while i < sizes.len() {
+        if 2048 < sizes[i] {
+            return true;
+        }
+        i += 1;
+    }
+    false
+}
+
+// The length of the commands, and those of the tags' images.
+pub fn too_long(commands: usize, sizes: &[u64]) -> bool
+    ensures { λ r. ⌜ r ≡ tooLong commands (now (sizes .entry)) ⌝ }
 {
     if 32768 < commands {
         return true;
     }
-    2048 < image
+    any_long(sizes)
 }
 
-pub fn judge(readable: bool, commands: usize, image: usize) -> Files
-    ensures { λ r. ⌜ r ≡ filesOf readable commands image ⌝ }
+pub fn judge(readable: bool, commands: usize, sizes: &[u64]) -> Files
+    ensures { λ r. ⌜ r ≡ filesOf readable commands (now (sizes .entry)) ⌝ }
 {
     if !readable {
         return Files::Unreadable;
     }
-    if too_long(commands, image) {
+    if too_long(commands, sizes) {
         return Files::TooLong;
     }
     Files::Fit

@@ -3,10 +3,11 @@ use crate::lines::put_counts;
 use crate::lines::put_drop;
 use crate::lines::put_frame;
 use crate::lines::put_refused;
-use bench::calling::Called;
-use bench::calling::call;
 use bench::outcome::Outcome;
+use calls::calling::Called;
+use calls::calling::call;
 use frame::bytes::byte_at;
+use population::places::Place;
 use reader::state::Reader;
 ghost use mathlib.Core.Path.{_≡_};
 ghost use Prim.Native.Nat.{_+_, _-_, _≤_};
@@ -14,9 +15,12 @@ ghost use lib.ListN.{length};
 ghost use Rattle.report.specs.Lines.{longestLine, ends};
 ghost use Rattle.report.specs.Writing.{started, Printable, Printed, stateAt, OneLine, Wrote};
 
-// Where a report stands between two pieces, beside the image and the output.
+// Where a report stands between two pieces, beside the memory, the output and the selection's bytes: `next` is the number of the first tag that may still be
+// handed out, `count` says how many bytes the selection has.
 pub struct Progress {
     pub reader: Reader,
+    pub next: usize,
+    pub count: usize,
     pub over: bool,
 }
 
@@ -26,6 +30,8 @@ impl Progress {
     {
         Self {
             reader: Reader::fresh(),
+            next: 16,
+            count: 0,
             over: false,
         }
     }
@@ -103,28 +109,44 @@ fn put_line(
 // One call, and its line at `at`.
 fn write_line(
     input: &[u8],
-    image: &mut [u8],
+    memory: &mut [u8],
     output: &mut [u8],
+    selection: &mut [u8; 39],
     buffer: &mut [u8],
     at: usize,
+    places: [Place; 16],
+    tags: usize,
     progress: Progress,
 ) -> Written
     requires { ⌜ at + longestLine ≤ length (now buffer) ⌝ }
     ensures { λ r. ⌜
-        OneLine (now (input .entry)) (stateAt (now (image .entry)) (now (output .entry)) progress) at (now (buffer .entry)) (now (buffer .exit))
-        (stateAt (now (image .exit)) (now (output .exit)) (r .progress)) r
+        OneLine (now (input .entry)) (stateAt (now (memory .entry)) places tags (now (selection .entry)) (now (output .entry)) progress) at
+        (now (buffer .entry)) (now (buffer .exit))
+        (stateAt (now (memory .exit)) places tags (now (selection .exit)) (now (output .exit)) (r .progress)) r
         ⌝ }
 {
     let reader = progress.reader;
-    let called = call(input, image, output, reader);
+    let called = call(
+        input,
+        memory,
+        output,
+        selection,
+        places,
+        tags,
+        reader,
+        progress.next,
+        progress.count,
+    );
     let used = put_line(input, reader.cursor, output, called, buffer, at);
-    let next = called.reader;
+    let moved = called.reader;
     let outcome = called.outcome;
     Written {
         room: Room::Enough,
         used,
         progress: Progress {
-            reader: next,
+            reader: moved,
+            next: called.next,
+            count: called.count,
             over: is_last(outcome),
         },
     }
@@ -134,14 +156,18 @@ fn write_line(
 // nothing changes.
 pub fn write(
     input: &[u8],
-    image: &mut [u8],
+    memory: &mut [u8],
     output: &mut [u8],
+    selection: &mut [u8; 39],
     buffer: &mut [u8],
+    places: [Place; 16],
+    tags: usize,
     progress: Progress,
 ) -> Written
     ensures { λ r. ⌜
-        Wrote (now (input .entry)) (now (buffer .entry)) (now (buffer .exit)) (stateAt (now (image .entry)) (now (output .entry)) progress) (progress .over)
-        (stateAt (now (image .exit)) (now (output .exit)) (r .progress)) r
+        Wrote (now (input .entry)) (now (buffer .entry)) (now (buffer .exit))
+        (stateAt (now (memory .entry)) places tags (now (selection .entry)) (now (output .entry)) progress) (progress .over)
+        (stateAt (now (memory .exit)) places tags (now (selection .exit)) (now (output .exit)) (r .progress)) r
         ⌝ }
 {
     let mut next = progress;
@@ -161,7 +187,17 @@ pub fn write(
                 progress: next,
             };
         }
-        let line = write_line(input, image, output, buffer, used, next);
+        let line = write_line(
+            input,
+            memory,
+            output,
+            selection,
+            buffer,
+            used,
+            places,
+            tags,
+            next,
+        );
         used = line.used;
         next = line.progress;
     }

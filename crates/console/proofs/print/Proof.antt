@@ -1,5 +1,5 @@
 -- `print` meets its contract: files that are not run leave the image, and of others the report is printed.
-use Rattle.console.proofs.Printing.{unreadable-not-fit, too-long-not-fit, untouched, printed}
+use Rattle.console.proofs.Printing.{unreadable-not-fit, too-long-not-fit, untouched, short-sizes, printed}
 use borrow.Author.Needs.{needs}
 use Rattle.console.proofs.print.Statement.{statement}
 use Rattle.console.proofs.print.Tie as tie
@@ -31,6 +31,11 @@ print-notice-requires-2 c κs = search needs
 enum-told-3 : tie.Need-enum-told-3
 enum-told-3 c = search needs
 
+lay-out-requires : tie.Need-lay-out-requires
+lay-out-requires c κs =
+    let a = c .before .before .before .before .before .before .before .args in
+    short-sizes (a .readable) (a .commands .now) (a .memory .now) (a .sizes .now) _ (c .before .before .judge .ensures) (c .enum-told3 .given .1)
+
 slice-aggregate-print-pieces : tie.Need-slice-aggregate-print-pieces
 slice-aggregate-print-pieces c = search needs
 
@@ -43,12 +48,14 @@ print-pieces-requires c κs = search needs
 returns : tie.Need-returns
 returns c =
     let told = c .before .before .before in
-    untouched _ _ _ _ (told .before .before .judge .ensures) _ _ (told .enum-told .given .1) unreadable-not-fit
+    let a = told .before .before .before .before .before .before .before .args in
+    untouched (a .readable) (a .commands .now) (a .memory .now) (a .sizes .now) _ (told .before .before .judge .ensures) _ _ (told .enum-told .given .1) unreadable-not-fit
 
 returns-2 : tie.Need-returns-2
 returns-2 c =
     let told = c .before .before .before in
-    untouched _ _ _ _ (told .before .before .judge .ensures) _ _ (told .enum-told2 .given .1) too-long-not-fit
+    let a = told .before .before .before .before .before .before .before .args in
+    untouched (a .readable) (a .commands .now) (a .memory .now) (a .sizes .now) _ (told .before .before .judge .ensures) _ _ (told .enum-told2 .given .1) too-long-not-fit
 
 same-length : tie.Need-same-length
 same-length c = search needs
@@ -56,8 +63,10 @@ same-length c = search needs
 returns-3 : tie.Need-returns-3
 returns-3 c =
     let made = c .before .before .before .before in
-    let told = made .before .before .before .before in
-    printed _ _ _ _ (told .before .before .judge .ensures) _ _ (told .enum-told3 .given .1) (made .print-pieces .ensures)
+    let row = made .before .before .before .before in
+    let told = row .before in
+    let a = told .before .before .before .before .before .before .before .args in
+    printed (a .readable) (a .commands .now) (a .memory .now) (a .sizes .now) _ (told .before .before .judge .ensures) _ _ _ (told .enum-told3 .given .1) (row .lay-out .ensures) (made .print-pieces .ensures)
 
 pub print-spec : {M : Type 1} → statement M
 print-spec =
@@ -72,6 +81,7 @@ print-spec =
     slice-aggregate-print-notice-2
     print-notice-requires-2
     enum-told-3
+    lay-out-requires
     slice-aggregate-print-pieces
     slice-aggregate-print-pieces-2
     print-pieces-requires

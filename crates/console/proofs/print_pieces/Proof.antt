@@ -11,31 +11,33 @@ use Rattle.console.proofs.print_pieces.Statement.{statement}
 use Rattle.console.proofs.print_pieces.Tie as tie
 
 abbrev Inv-loop : tie.InvT-loop
-Inv-loop commands image₀ output₀ buffer₀ progress₀ image output buffer progress = Going commands image₀ output₀ buffer₀ image output buffer progress
+Inv-loop commands memory₀ output₀ buffer₀ places tags selection₀ progress₀ memory output buffer selection progress =
+    Going commands places tags memory₀ output₀ buffer₀ memory output selection buffer progress
 
 abbrev μ-loop : tie.MeasureT-loop
-μ-loop commands image₀ output₀ buffer₀ progress₀ image output buffer progress = length (stepsFrom commands (progress .over) (stateAt image output progress))
+μ-loop commands memory₀ output₀ buffer₀ places tags selection₀ progress₀ memory output buffer selection progress =
+    length (stepsFrom commands (progress .over) (stateAt memory places tags selection output progress))
 
 start-requires : tie.Need-start-requires Inv-loop μ-loop
 start-requires c κs = search needs
 
 loop-holds : tie.Need-loop-holds Inv-loop μ-loop
-loop-holds c = going _ _ _ _ _ (c .start .ensures)
+loop-holds c = going _ _ _ _ _ _ _ _ (c .start .ensures)
 
 write-requires : tie.Need-write-requires Inv-loop μ-loop
 write-requires c κs = search needs
 
 slice-reshare-prefix-write-all : tie.Need-slice-reshare-prefix-write-all Inv-loop μ-loop
 slice-reshare-prefix-write-all c =
-    let made = c .before .before .before .before .before .before .write in
-    let l = c .before .before .before .before .before .before .before .before .before .before .before .before in
-    used-there _ _ _ _ _ _ _ _ _ _ _ _ (l .loop .inv) (l .before .before .before .before .before .before .pre) (made .ensures) (made .kept .1 .0) (made .kept .1 .1 .0) (made .kept .1 .1 .1 .0)
+    let made = c .before .before .before .before .before .before in
+    let l = made .before .before .before .before .before .before .before in
+    used-there _ _ _ _ _ _ _ _ _ _ _ _ _ _ _ _ (l .loop .inv) (l .before .before .before .before .before .before .pre) (made .write .ensures) (made .write .kept .1 .0) (made .write .kept .1 .1 .0) (made .write .kept .1 .1 .1 .1 .0)
 
 slice-aggregate-write-all : tie.Need-slice-aggregate-write-all Inv-loop μ-loop
 slice-aggregate-write-all c =
-    let made = c .before .before .before .before .before .before .before .write in
-    let l = c .before .before .before .before .before .before .before .before .before .before .before .before .before in
-    sym (length-take-le _ _ (used-there _ _ _ _ _ _ _ _ _ _ _ _ (l .loop .inv) (l .before .before .before .before .before .before .pre) (made .ensures) (made .kept .1 .0) (made .kept .1 .1 .0) (made .kept .1 .1 .1 .0)))
+    let made = c .before .before .before .before .before .before .before in
+    let l = made .before .before .before .before .before .before .before in
+    sym (length-take-le _ _ (used-there _ _ _ _ _ _ _ _ _ _ _ _ _ _ _ _ (l .loop .inv) (l .before .before .before .before .before .before .pre) (made .write .ensures) (made .write .kept .1 .0) (made .write .kept .1 .1 .0) (made .write .kept .1 .1 .1 .1 .0)))
 
 write-all-requires : tie.Need-write-all-requires Inv-loop μ-loop
 write-all-requires c κs = search needs
@@ -51,21 +53,21 @@ same-length-3 c = search needs
 
 returns : tie.Need-returns Inv-loop μ-loop
 returns c =
-    let made = c .before .before .before .before .before .before .before .before .before .write in
-    let l = c .before .before .before .before .before .before .before .before .before .before .before .before .before .before .before in
-    stopped _ _ _ _ _ _ _ _ (goes-on _ _ _ _ _ _ _ _ _ _ _ _ (l .loop .inv) (l .before .before .before .before .before .before .pre) (made .ensures) (made .kept .1 .0) (made .kept .1 .1 .0) (made .kept .1 .1 .1 .0))
+    let made = c .before .before .before .before .before .before .before .before .before in
+    let l = made .before .before .before .before .before .before .before in
+    stopped _ _ _ _ _ _ _ _ _ _ _ (goes-on _ _ _ _ _ _ _ _ _ _ _ _ _ _ _ _ (l .loop .inv) (l .before .before .before .before .before .before .pre) (made .write .ensures) (made .write .kept .1 .0) (made .write .kept .1 .1 .0) (made .write .kept .1 .1 .1 .1 .0))
 
 loop-less : tie.Need-loop-less Inv-loop μ-loop
 loop-less c =
-    let made = c .before .before .before .before .before .before .before .before .before .before .write in
-    let l = c .before .before .before .before .before .before .before .before .before .before .before .before .before .before .before .before in
-    nearer _ _ _ _ _ _ _ _ _ _ _ _ (l .loop .inv) (l .before .before .before .before .before .before .pre) (made .ensures) (made .kept .1 .0) (made .kept .1 .1 .0) (made .kept .1 .1 .1 .0) (not-true _ (c .before .before .before .before .before .before .before .before .before .before .before .before .before .before .if1 .taken))
+    let made = c .before .before .before .before .before .before .before .before .before .before in
+    let l = made .before .before .before .before .before .before .before in
+    nearer _ _ _ _ _ _ _ _ _ _ _ _ _ _ _ _ (l .loop .inv) (l .before .before .before .before .before .before .pre) (made .write .ensures) (made .write .kept .1 .0) (made .write .kept .1 .1 .0) (made .write .kept .1 .1 .1 .1 .0) (not-true _ (made .before .before .before .before .before .if1 .taken))
 
 loop-again : tie.Need-loop-again Inv-loop μ-loop
 loop-again c =
-    let made = c .before .before .before .before .before .before .before .before .before .before .write in
-    let l = c .before .before .before .before .before .before .before .before .before .before .before .before .before .before .before .before in
-    goes-on _ _ _ _ _ _ _ _ _ _ _ _ (l .loop .inv) (l .before .before .before .before .before .before .pre) (made .ensures) (made .kept .1 .0) (made .kept .1 .1 .0) (made .kept .1 .1 .1 .0)
+    let made = c .before .before .before .before .before .before .before .before .before .before in
+    let l = made .before .before .before .before .before .before .before in
+    goes-on _ _ _ _ _ _ _ _ _ _ _ _ _ _ _ _ (l .loop .inv) (l .before .before .before .before .before .before .pre) (made .write .ensures) (made .write .kept .1 .0) (made .write .kept .1 .1 .0) (made .write .kept .1 .1 .1 .1 .0)
 
 same-length-4 : tie.Need-same-length-4 Inv-loop μ-loop
 same-length-4 c = search needs
@@ -77,7 +79,7 @@ same-length-6 : tie.Need-same-length-6 Inv-loop μ-loop
 same-length-6 c = search needs
 
 returns-2 : tie.Need-returns-2 Inv-loop μ-loop
-returns-2 c = finished _ _ _ _ _ _ _ _ (c .before .before .loop .inv) (not-false _ (c .if1 .left))
+returns-2 c = finished _ _ _ _ _ _ _ _ _ _ _ (c .before .before .loop .inv) (not-false _ (c .if1 .left))
 
 pub print-pieces-spec : {M : Type 1} → statement M
 print-pieces-spec =

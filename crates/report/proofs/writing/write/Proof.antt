@@ -4,7 +4,7 @@ use Prim.Native.Nat.{suc, _-_}
 use lib.ListN.{length}
 use mathlib.Core.Path.{_≡_, refl, _∙_}
 use native.Mathlib.Omega.{arith}
-use Rattle.bench.specs.Machine.{work}
+use Rattle.calls.specs.Machine.{work}
 use Rattle.frame.specs.Bytes.{pick}
 use Rattle.report.proofs.Pieces.{Going, going, goes, falls, too-short, filled, ended}
 use Rattle.report.specs.Writing.{stateAt}
@@ -13,13 +13,14 @@ use Rattle.report.proofs.writing.write.Statement.{statement}
 use Rattle.report.proofs.writing.write.Tie as tie
 
 abbrev Inv-loop : tie.InvT-loop
-Inv-loop input image₀ output₀ buffer₀ next₀ used₀ image output buffer next used =
-    (length image ≡ length image₀)
+Inv-loop input memory₀ output₀ selection₀ buffer₀ places tags next₀ used₀ memory output selection buffer next used =
+    (length memory ≡ length memory₀)
     × ((length output ≡ length output₀)
-    × Going input buffer₀ (stateAt image₀ output₀ next₀) (next₀ .over) buffer used (stateAt image output next) (next .over))
+    × Going input buffer₀ (stateAt memory₀ places tags selection₀ output₀ next₀) (next₀ .over) buffer used (stateAt memory places tags selection output next) (next .over))
 
 abbrev μ-loop : tie.MeasureT-loop
-μ-loop input image₀ output₀ buffer₀ next₀ used₀ image output buffer next used = pick (next .over) 0 (suc (work input (stateAt image output next)))
+μ-loop input memory₀ output₀ selection₀ buffer₀ places tags next₀ used₀ memory output selection buffer next used =
+    pick (next .over) 0 (suc (work input (stateAt memory places tags selection output next)))
 
 returns : tie.Need-returns Inv-loop μ-loop
 returns c = too-short _ _ _ _ (c .if1 .taken)
@@ -28,7 +29,7 @@ loop-holds : tie.Need-loop-holds Inv-loop μ-loop
 loop-holds c = (refl, (refl, going _ _ _ _))
 
 add-loop : tie.Need-add-loop Inv-loop μ-loop
-add-loop c = omega (arith, c .loop .inv .1 .1 .within, c .before .before .before .before .before .before .good .1 .1 .1 .0)
+add-loop c = omega (arith, c .loop .inv .1 .1 .within, c .before .before .before .before .before .before .good .1 .1 .1 .1 .0)
 
 same-length : tie.Need-same-length Inv-loop μ-loop
 same-length c = search needs
@@ -45,19 +46,22 @@ returns-2 c =
     ended _ _ _ _ _ _ _ (l .next) (c .before .before .before .if1 .left) (l .inv .1 .1) (c .if2 .taken)
 
 write-line-requires : tie.Need-write-line-requires Inv-loop μ-loop
-write-line-requires c κs = c .before .before .before .before .loop-test .taken
+write-line-requires c κs = c .before .before .before .before .before .loop-test .taken
 
 loop-less : tie.Need-loop-less Inv-loop μ-loop
-loop-less c = falls _ _ _ _ _ _ _ _ (c .before .before .before .before .before .before .before .before .before .before .before .if2 .left) (c .before .before .before .before .before .before .before .write-line .ensures)
+loop-less c =
+    let made = c .before .before .before .before .before .before .before in
+    falls _ _ _ _ _ _ _ _ (made .before .before .before .before .before .if2 .left) (made .write-line .ensures)
 
 loop-again : tie.Need-loop-again Inv-loop μ-loop
 loop-again c =
-    let l = c .before .before .before .before .before .before .before .before .before .before .before .before .before .loop in
-    let made = c .before .before .before .before .before .before .before .write-line in (
-      made .kept .1 .0 ∙ l .inv .0,
+    let made = c .before .before .before .before .before .before .before in
+    let turn = made .before .before .before .before .before in
+    let l = turn .before .before .loop in (
+      made .write-line .kept .1 .0 ∙ l .inv .0,
       (
-        made .kept .1 .1 .0 ∙ l .inv .1 .0,
-        goes _ _ _ _ _ _ _ _ _ _ _ (l .inv .1 .1) (c .before .before .before .before .before .before .before .before .before .before .before .if2 .left) (c .before .before .before .before .before .before .before .before .before .before .before .before .loop-test .taken) (made .ensures),
+        made .write-line .kept .1 .1 .0 ∙ l .inv .1 .0,
+        goes _ _ _ _ _ _ _ _ _ _ _ (l .inv .1 .1) (turn .if2 .left) (turn .before .loop-test .taken) (made .write-line .ensures),
       ),
     )
 

@@ -8,7 +8,10 @@ call-requires : tie.Need-call-requires
 call-requires c κs = search needs
 
 put-line-requires : tie.Need-put-line-requires
-put-line-requires c κs = called-printable _ _ _ _ _ (c .before .before .before .before .before .before .call .ensures) _ _ (c .before .before .before .before .before .before .before .before .before .before .before .before .before .before .pre)
+put-line-requires c κs =
+    let made = c .before .before .before .before .before .before in
+    let start = made .before .before .before .before .before .before .before .before .before in
+    called-printable _ _ _ _ _ _ _ _ (made .call .ensures) _ _ (start .pre)
 
 is-last-requires : tie.Need-is-last-requires
 is-last-requires c κs = search needs
@@ -24,8 +27,10 @@ same-length-3 c = search needs
 
 returns : tie.Need-returns
 returns c =
-    let a = c .before .before .before .before .before .before .before .before .before .before .before .before .before .before .before .before .before .before .before .args in
-    called-line (a .input .now) _ _ _ _ (c .before .before .before .before .before .before .before .before .before .before .before .call .ensures) _ _ _ _ _ (c .before .before .before .before .put-line .ensures) (c .is-last .ensures)
+    let put = c .before .before .before .before in
+    let made = put .before .before .before .before .before .before .before in
+    let a = made .before .before .before .before .before .before .before .before .before .args in
+    called-line (a .input .now) _ _ _ _ _ _ _ (made .call .ensures) _ _ _ _ _ (put .put-line .ensures) (c .is-last .ensures)
 
 pub write-line-spec : {M : Type 1} → statement M
 write-line-spec =

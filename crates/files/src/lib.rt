@@ -1,9 +1,10 @@
 // A file, read into a lent buffer.
 ghost use Rattle.io.specs.Counts.{Counts};
 
-// How many bytes stand at the start of the buffer, and whether no read failed. A file that is longer than the buffer is read as far as
-// the buffer goes.
+// Whether the file was opened, how many bytes stand at the start of the buffer, and whether no read failed. A file that is longer than the buffer is read
+// as far as the buffer goes.
 pub struct Read {
+    pub opened: bool,
     pub length: usize,
     pub readable: bool,
 }
@@ -32,6 +33,7 @@ fn read_open(file: i32, buffer: &mut [u8]) -> Read
         let got = read_some(file, &mut buffer[length..]);
         if got < 0 {
             return Read {
+                opened: true,
                 length,
                 readable: false,
             };
@@ -39,6 +41,7 @@ fn read_open(file: i32, buffer: &mut [u8]) -> Read
         let more = io::count(got, &buffer[length..]);
         if more == 0 {
             return Read {
+                opened: true,
                 length,
                 readable: true,
             };
@@ -46,6 +49,7 @@ fn read_open(file: i32, buffer: &mut [u8]) -> Read
         length += more;
     }
     Read {
+        opened: true,
         length,
         readable: true,
     }
@@ -58,6 +62,7 @@ pub fn read_file(path: &[u8], buffer: &mut [u8]) -> Read
     let file = os::open_read(path);
     if file < 0 {
         return Read {
+            opened: false,
             length: 0,
             readable: true,
         };

@@ -5,8 +5,8 @@ use mathlib.Core.Path.{_≡_, refl}
 use native.Mathlib.Omega.{arith}
 use Rattle.io.proofs.Counting.{counts}
 use borrow.Author.Needs.{needs}
-use Rattle.poldrisk.proofs.files.read_open.Statement.{statement}
-use Rattle.poldrisk.proofs.files.read_open.Tie as tie
+use Rattle.files.proofs.read_open.Statement.{statement}
+use Rattle.files.proofs.read_open.Tie as tie
 
 abbrev Inv-loop : tie.InvT-loop
 Inv-loop file buffer₀ read₀ buffer read = (length buffer ≡ length buffer₀) × (read ≤ length buffer)

@@ -3,8 +3,8 @@ use lib.ListN.{length}
 use mathlib.Core.Path.{_≡_, refl}
 use native.Mathlib.Omega.{arith}
 use borrow.Author.Needs.{needs}
-use Rattle.poldrisk.proofs.files.read_some.Statement.{statement}
-use Rattle.poldrisk.proofs.files.read_some.Tie as tie
+use Rattle.files.proofs.read_some.Statement.{statement}
+use Rattle.files.proofs.read_some.Tie as tie
 
 abbrev Inv-loop : tie.InvT-loop
 Inv-loop file buffer₀ tries₀ buffer tries = length buffer ≡ length buffer₀
