@@ -3,7 +3,7 @@ use Prim.Native.Nat.{ℕ, _+_, _-_, _/_, _≤_, _<_}
 use borrow.Author.Tests.{le-leb, eqb-true}
 use lib.Dec.{eqb}
 use lib.ListN.{length, take, drop, set}
-use lib.Seq.{take-all}
+use lib.Seq.{sets, take-all}
 use mathlib.Core.Bool.{true, false}
 use mathlib.Core.List.{List, [], _∷_}
 use mathlib.Core.Path.{_≡_, refl, ap, ap₂, sym, subst, _∙_}
@@ -12,7 +12,7 @@ use native.Mathlib.Omega.{arith}
 use Rattle.bench.specs.Machine.{readerOf, counted}
 use Rattle.bench.specs.declared.outcome.Outcome.{Outcome}
 use Rattle.bench.specs.declared.outcome.Outcome.the-variants.{Answered, Dropped}
-use Rattle.calls.specs.Calls.{selectionIn, stepOf, Ready, Framed, Aimable, Doable, AimDone, Told, Selected}
+use Rattle.calls.specs.Calls.{selectionIn, stepOf, Lent, lentOf, withSelected, lentAfter, Ready, Framed, Aimable, Doable, AimDone, Told, Selected}
 use Rattle.calls.specs.Machine.{State, stateOf, Step, parametersAt, unchanged, dropped, told, plainError, selectTaken, selecting, missed, nextAfter, imageFor, actFor, acted, aimed, carriedOut}
 use Rattle.calls.specs.declared.calling.Called.{Called}
 use Rattle.calls.specs.declared.deciding.Aimed.{Aimed}
@@ -63,9 +63,11 @@ tells frame output outputLeft n f behind count t u e =
 module _ (bytes output p : List ℕ) (reader : Reader) (count behind : ℕ) (outputLeft : List ℕ) where
   pub not-taken : taken p ≡ false → (r : Called) → Told (plainError 0x17) output outputLeft (readerOf behind (withError (reader .tally))) count r
       → Selected bytes output p reader count behind bytes outputLeft r
+  unfolding withSelected
   not-taken h r t =
       record {
         selection-is = ap (λ (x : Called). selectionIn bytes (x .count)) (t .result-is) ∙ sym (simp (h, pick-false));
+        lent-is = ap (λ (x : Called). lentOf bytes (x .count)) (t .result-is) ∙ sym (simp (h, pick-false));
         output-is = t .output-is ∙ sym (simp (h, pick-false));
         outcome-is = ap (λ (x : Called). x .outcome) (t .result-is);
         length-is = ap (λ (x : Called). x .length) (t .result-is) ∙ sym (simp (h, pick-false));
@@ -73,15 +75,16 @@ module _ (bytes output p : List ℕ) (reader : Reader) (count behind : ℕ) (out
         next-is = ap (λ (x : Called). x .next) (t .result-is);
       }
 
-  -- the parameters stand at the start of the lent bytes
-  stored : length p ≤ 39 → length bytes ≡ 39 → selectionIn (copied p 0 (length p) bytes 0) (length p) ≡ p
-  unfolding selectionIn part
-  stored few room =
+  -- the parameters stand in front of the lent bytes
+  put-in-front : length p ≤ 39 → length bytes ≡ 39 → copied p 0 (length p) bytes 0 ≡ sets bytes 0 p
+  unfolding part
+  put-in-front few room =
       let whole : part p 0 (length p) ≡ p = take-all (length p) p (omega arith) in
-      let is : copied p 0 (length p) bytes 0 ≡ lib.Seq.sets bytes 0 p =
-      copied-is p 0 (length p) bytes 0 (omega arith) (omega arith) ∙ ap (λ (l : List ℕ). lib.Seq.sets bytes 0 l) whole
-      in
-      simp (le-leb (length p) 39 few, pick-true, is) (part-sets bytes 0 p (omega arith))
+      copied-is p 0 (length p) bytes 0 (omega arith) (omega arith) ∙ ap (λ (l : List ℕ). sets bytes 0 l) whole
+
+  in-front : length p ≤ 39 → length bytes ≡ 39 → selectionIn (sets bytes 0 p) (length p) ≡ p
+  unfolding selectionIn part
+  in-front few room = simp (le-leb (length p) 39 few, pick-true) (part-sets bytes 0 p (omega arith))
 
   -- the mask length b, one byte, tells how many parameters there are
   module _ (h : taken p ≡ true) (b : ℕ) (bits : b ≡ byte p 5) where
@@ -95,14 +98,17 @@ module _ (bytes output p : List ℕ) (reader : Reader) (count behind : ℕ) (out
         → (n : ℕ) → FrameWritten selectTaken output outputLeft n → (t : Tally) → t ≡ withGood (reader .tally)
         → Selected bytes output p reader count behind bytesLeft outputLeft
         record { outcome = Answered; length = n; reader = readerOf behind t; next = 16; count = 7 + (b + 7) / 8 }
+    unfolding withSelected
     is-taken small room bytesLeft left n f t counts =
         let few : length p ≤ 39 = omega (arith, mask-tells) in
+        let lent : lentOf bytesLeft (7 + (b + 7) / 8) ≡ lentOf (sets bytes 0 p) (length p) =
+        ap (λ (l : List ℕ). lentOf l (7 + (b + 7) / 8)) left
+        ∙ ap (λ (k : ℕ). lentOf (copied p 0 k bytes 0) k) mask-tells
+        ∙ ap (λ (l : List ℕ). lentOf l (length p)) (put-in-front few room)
+        in
         record {
-          selection-is =
-              ap (λ (l : List ℕ). selectionIn l (7 + (b + 7) / 8)) left
-              ∙ ap (λ (k : ℕ). selectionIn (copied p 0 k bytes 0) k) mask-tells
-              ∙ stored few room
-              ∙ sym (simp (h, pick-true));
+          selection-is = ap (λ (l : Lent). selectionIn (l .bytes) (l .count)) lent ∙ in-front few room ∙ sym (simp (h, pick-true));
+          lent-is = lent ∙ sym (simp (h, pick-true));
           output-is = f .output-is ∙ sym (simp (h, pick-true));
           outcome-is = refl;
           length-is = f .length-is ∙ sym (simp (h, pick-true));
@@ -199,6 +205,41 @@ module _ (input memory output bytes : List ℕ) (reader : Reader) (next count : 
   does-aim job a e p same n next-is memoryLeft outputLeft r t =
       let here : stepOf r memoryLeft places tags bytes outputLeft ≡ aimed s a p = simp (t .result-is, t .memory-is, t .output-is, next-is) in
       here ∙ ap (aimed s a) same ∙ sym (ap (carriedOut input s) e)
+
+-- ---- and leaves the lent bytes as it says
+
+module _ (input : List ℕ) (cursor : ℕ) (l : Lent) (job : Job) where
+  lends : (kind : Job) → job ≡ kind → lentAfter input cursor l kind ≡ lentAfter input cursor l job
+  lends kind e = sym (ap (lentAfter input cursor l) e)
+
+  pub lends-stay : (o : Outcome) → job ≡ Stay o → l ≡ lentAfter input cursor l job
+  unfolding lentAfter
+  lends-stay o e = lends (Stay o) e
+
+  pub lends-drop : (r : Reason) → job ≡ DropByte r → l ≡ lentAfter input cursor l job
+  unfolding lentAfter
+  lends-drop r e = lends (DropByte r) e
+
+  pub lends-miss : (error pl : ℕ) → job ≡ Miss error pl → (frame output outputLeft : List ℕ) (reader : Reader) (r : Called)
+      → Told frame output outputLeft reader (l .count) r
+      → lentOf (l .bytes) (r .count) ≡ lentAfter input cursor l job
+  unfolding lentAfter
+  lends-miss error pl e frame output outputLeft reader r t = ap (λ (x : Called). lentOf (l .bytes) (x .count)) (t .result-is) ∙ lends (Miss error pl) e
+
+  pub lends-select : (pl : ℕ) → job ≡ Select pl → (p : List ℕ) → p ≡ parametersAt input cursor pl
+      → (output : List ℕ) (reader : Reader) (behind : ℕ) (bytesLeft outputLeft : List ℕ) (r : Called)
+      → Selected (l .bytes) output p reader (l .count) behind bytesLeft outputLeft r
+      → lentOf bytesLeft (r .count) ≡ lentAfter input cursor l job
+  unfolding lentAfter
+  lends-select pl e p same output reader behind bytesLeft outputLeft r t =
+      t .lent-is ∙ ap (λ (q : List ℕ). withSelected q l) same ∙ lends (Select pl) e
+
+  pub lends-aim : (a : Aimed) → job ≡ Aim a → (memory output p : List ℕ) (reader : Reader) (n : ℕ) (act : Act) (memoryLeft outputLeft : List ℕ) (r : Called)
+      → AimDone memory output p a reader n (l .count) act memoryLeft outputLeft r
+      → lentOf (l .bytes) (r .count) ≡ lentAfter input cursor l job
+  unfolding lentAfter
+  lends-aim a e memory output p reader n act memoryLeft outputLeft r t =
+      ap (λ (x : Called). lentOf (l .bytes) (x .count)) (t .result-is) ∙ lends (Aim a) e
 
 -- ---- what was shown of each job
 

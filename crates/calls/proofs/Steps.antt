@@ -12,7 +12,7 @@ use Rattle.bench.specs.Machine.{numberOf}
 use Rattle.bench.specs.declared.outcome.Outcome.{Outcome}
 use Rattle.bench.specs.declared.outcome.Outcome.the-variants.{AtEnd, Incomplete, PastEnd, BadImage, ShortOutput, FullTally}
 use Rattle.calls.proofs.Lowests.{TheLowest, the-lowest, lowest-inside, lowest-good}
-use Rattle.calls.specs.Calls.{Ready, Framed, Aimable, Doable}
+use Rattle.calls.specs.Calls.{Lent, lentAfter, lentBy, Ready, Framed, Aimable, Doable}
 use Rattle.calls.specs.Machine.{State, Call, call, Step, codeAt, parametersAt, errorWithout, aimJob, commandJob, foundJob, findJob, handOut, waiting, decide, unchanged, dropped, selecting, missed, aimed, carriedOut, inputOf, restOf, step}
 use Rattle.calls.specs.declared.deciding.Aimed.{Aimed}
 use Rattle.calls.specs.declared.deciding.Job.{Job}
@@ -188,6 +188,10 @@ module _ (input : List ℕ) (s : State) where
   pub called : (x : Step) (job : Job) → x ≡ carriedOut input s job → job ≡ decide input s → x ≡ step (call input) s
   unfolding step inputOf
   called x job done e = done ∙ ap (carriedOut input s) e
+
+  pub lent-called : (l x : Lent) (job : Job) → x ≡ lentAfter input (s .reader .cursor) l job → job ≡ decide input s → x ≡ lentBy input s l
+  unfolding lentBy
+  lent-called l x job done e = done ∙ ap (lentAfter input (s .reader .cursor) l) e
 
 -- ---- the step
 

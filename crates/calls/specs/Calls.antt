@@ -5,9 +5,10 @@ use mathlib.Core.List.{List}
 use mathlib.Core.Path.{_≡_}
 use lib.Dec.{leb}
 use lib.ListN.{length, take, replicate}
+use lib.Seq.{sets}
 use Rattle.bench.specs.Machine.{readerOf, counted}
 use Rattle.bench.specs.declared.outcome.Outcome.the-variants.{Answered}
-use Rattle.calls.specs.Machine.{stateOf, Step, plainError, selectTaken}
+use Rattle.calls.specs.Machine.{State, stateOf, Step, parametersAt, decide, plainError, selectTaken}
 use Rattle.calls.specs.declared.calling.Called.{Called}
 use Rattle.calls.specs.declared.deciding.Aimed.{Aimed}
 use Rattle.calls.specs.declared.deciding.Job.{Job}
@@ -35,6 +36,29 @@ stepOf r memory places tags selection output =
       length = r .length;
       next = stateOf memory places tags (selectionIn selection (r .count)) output (r .reader) (r .next);
     }
+
+-- ---- all 39 lent bytes, and how many of them are the selection
+pub record Lent : Type 0 where
+  pub bytes : List ℕ
+  pub count : ℕ
+
+abbrev pub lentOf : List ℕ → ℕ → Lent
+lentOf bytes count = record { bytes = bytes; count = count }
+
+-- A Set Select that is taken: its parameters stand in front, the bytes behind them stay, and as many as they are is the selection.
+unfoldable pub withSelected : List ℕ → Lent → Lent
+withSelected p l = pick (taken p) (lentOf (sets (l .bytes) 0 p) (length p)) l
+
+-- No other job changes a byte, or their number.
+unfoldable pub lentAfter : List ℕ → ℕ → Lent → Job → Lent
+lentAfter input cursor l (Stay outcome) = l
+lentAfter input cursor l (DropByte r) = l
+lentAfter input cursor l (Select pl) = withSelected (parametersAt input cursor pl) l
+lentAfter input cursor l (Miss e pl) = l
+lentAfter input cursor l (Aim a) = l
+
+unfoldable pub lentBy : List ℕ → State → Lent → Lent
+lentBy input s l = lentAfter input (s .reader .cursor) l (decide input s)
 
 -- ---- in parts
 
@@ -82,6 +106,7 @@ pub record Told (frame output outputLeft : List ℕ) (reader : Reader) (count : 
 -- Set Select: the selection becomes the parameters `p`, where they are such as it takes
 pub record Selected (bytes output p : List ℕ) (reader : Reader) (count behind : ℕ) (bytesLeft outputLeft : List ℕ) (r : Called) : Type 0 where
   pub selection-is : selectionIn bytesLeft (r .count) ≡ pick (taken p) p (selectionIn bytes count)
+  pub lent-is : lentOf bytesLeft (r .count) ≡ withSelected p (lentOf bytes count)
   pub output-is : outputLeft ≡ written (pick (taken p) selectTaken (plainError 0x17)) output
   pub outcome-is : r .outcome ≡ Answered
   pub length-is : r .length ≡ length (pick (taken p) selectTaken (plainError 0x17))

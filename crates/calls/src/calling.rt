@@ -19,7 +19,7 @@ ghost use Prim.Native.Nat.{ℕ, _+_, _≤_, _<_};
 ghost use lib.Dec.{eqb};
 ghost use lib.ListN.{length};
 ghost use Rattle.bench.specs.Machine.{readerOf};
-ghost use Rattle.calls.specs.Calls.{selectionIn, stepOf, Ready, Doable, AimDone, Told, Selected};
+ghost use Rattle.calls.specs.Calls.{selectionIn, stepOf, lentOf, lentAfter, lentBy, Ready, Doable, AimDone, Told, Selected};
 ghost use Rattle.calls.specs.Machine.{call as aCall, stateOf, carriedOut, step, plainError};
 ghost use Rattle.execution.specs.Execution.{FrameWritten};
 ghost use Rattle.frame.specs.Bytes.{pick};
@@ -183,6 +183,8 @@ fn carry_out(
         → stepOf r (now (memory .exit)) places tags (now (selection .exit)) (now (output .exit))
         ≡ carriedOut (now (input .entry))
         (stateOf (now (memory .entry)) places tags (selectionIn (now (selection .entry)) count) (now (output .entry)) reader next) job)
+        × (lentOf (now (selection .exit)) (r .count)
+        ≡ lentAfter (now (input .entry)) (reader .cursor) (lentOf (now (selection .entry)) count) job)
         ⌝ }
 {
     let cursor = reader.cursor;
@@ -246,9 +248,13 @@ pub fn call(
     count: usize,
 ) -> Called
     ensures { λ r. ⌜
-        stepOf r (now (memory .exit)) places tags (now (selection .exit)) (now (output .exit))
+        (stepOf r (now (memory .exit)) places tags (now (selection .exit)) (now (output .exit))
         ≡ step (aCall (now (input .entry)))
+        (stateOf (now (memory .entry)) places tags (selectionIn (now (selection .entry)) count) (now (output .entry)) reader next))
+        × (lentOf (now (selection .exit)) (r .count)
+        ≡ lentBy (now (input .entry))
         (stateOf (now (memory .entry)) places tags (selectionIn (now (selection .entry)) count) (now (output .entry)) reader next)
+        (lentOf (now (selection .entry)) count))
         ⌝ }
 {
     let job = decide(

@@ -1,2 +1,2 @@
-pub mod Keeping
 pub mod Packing
+pub mod Placing

@@ -1,41 +1,48 @@
 -- The packed state: what the stores leave, what its numbers are as a reader's state, and each end of a call.
-use Prim.Native.Nat.{ℕ, zero, suc, _^_, _≤_, _<_}
-use borrow.Author.Tests.{ltb-false, lt-ltb, le-ltb, eq-eqb, ne-eqb}
+use Prim.Native.Nat.{ℕ, zero, suc, _/_, _^_, _≤_, _<_}
+use borrow.Author.Tests.{ltb-false, le-ltb, eq-eqb, ne-eqb}
 use lib.Bits.{bitOr, or-lt}
 use lib.Dec.{ltb}
 use lib.ListN.{length, set, getD}
 use mathlib.Core.Bool.{Bool, true, false}
 use mathlib.Core.List.{List, [], _∷_}
-use mathlib.Core.Path.{_≡_, refl, sym, ap, _∙_}
+use mathlib.Core.Path.{_≡_, refl, sym, ap, ap₂, _∙_}
 use native.Mathlib.Omega.{arith}
-use Rattle.bench.specs.Calls.{stepOf}
-use Rattle.bench.specs.Machine.{stateOf, call, step, numberOf, reasonOf}
-use Rattle.bench.specs.declared.calling.Called.{Called}
-use Rattle.embed.specs.Packed.{packed, countsIn, anyAbove, readerIn, leftBy, told, calledWith, called}
+use Rattle.bench.specs.Machine.{numberOf, reasonOf}
+use Rattle.calls.specs.Calls.{selectionIn, stepOf, lentOf, lentBy}
+use Rattle.calls.specs.Machine.{stateOf, call, step}
+use Rattle.calls.specs.declared.calling.Called.{Called}
+use Rattle.embed.specs.Packed.{packed, countsIn, anyAbove, readerIn, leftBy, told, stateIn, stepped, calledWith, called}
+use Rattle.embed.specs.Placed.{tagsIn, usedOf, placesFit, placed}
 use Rattle.embed.specs.declared.Unpacked.{Unpacked}
 use Rattle.embed.specs.declared.Unpacked.the-variants.{Fit, OutOfRange}
 use Rattle.frame.proofs.Picks.{pick-true, pick-false}
 use Rattle.frame.proofs.Tests.{either, or-neither}
+use Rattle.population.specs.declared.places.Place.{Place}
 use Rattle.reader.proofs.Tallies.{or-most-l, or-most-r, orAll}
 use Rattle.reader.specs.Tallies.{tallyOf, limit}
 use Rattle.reader.specs.declared.state.Reader.{Reader}
 
--- a list of ten numbers, number by number
-pub ten-cases : (P : List ℕ → Type 0) → ((s0 s1 s2 s3 s4 s5 s6 s7 s8 s9 : ℕ) → P (s0 ∷ s1 ∷ s2 ∷ s3 ∷ s4 ∷ s5 ∷ s6 ∷ s7 ∷ s8 ∷ s9 ∷ [])) → (state : List ℕ) → length state ≡ 10 → P state
-ten-cases P ten (s0 ∷ s1 ∷ s2 ∷ s3 ∷ s4 ∷ s5 ∷ s6 ∷ s7 ∷ s8 ∷ s9 ∷ []) h = ten s0 s1 s2 s3 s4 s5 s6 s7 s8 s9
-ten-cases P ten [] h = absurd (omega arith)
-ten-cases P ten (s0 ∷ []) h = absurd (omega arith)
-ten-cases P ten (s0 ∷ s1 ∷ []) h = absurd (omega arith)
-ten-cases P ten (s0 ∷ s1 ∷ s2 ∷ []) h = absurd (omega arith)
-ten-cases P ten (s0 ∷ s1 ∷ s2 ∷ s3 ∷ []) h = absurd (omega arith)
-ten-cases P ten (s0 ∷ s1 ∷ s2 ∷ s3 ∷ s4 ∷ []) h = absurd (omega arith)
-ten-cases P ten (s0 ∷ s1 ∷ s2 ∷ s3 ∷ s4 ∷ s5 ∷ []) h = absurd (omega arith)
-ten-cases P ten (s0 ∷ s1 ∷ s2 ∷ s3 ∷ s4 ∷ s5 ∷ s6 ∷ []) h = absurd (omega arith)
-ten-cases P ten (s0 ∷ s1 ∷ s2 ∷ s3 ∷ s4 ∷ s5 ∷ s6 ∷ s7 ∷ []) h = absurd (omega arith)
-ten-cases P ten (s0 ∷ s1 ∷ s2 ∷ s3 ∷ s4 ∷ s5 ∷ s6 ∷ s7 ∷ s8 ∷ []) h = absurd (omega arith)
-ten-cases P ten (s0 ∷ s1 ∷ s2 ∷ s3 ∷ s4 ∷ s5 ∷ s6 ∷ s7 ∷ s8 ∷ s9 ∷ s10 ∷ s) h = absurd (omega arith)
+-- twelve numbers, each of them stored
+pub all-stored : (state : List ℕ) → length state ≡ 12 → (a b c d e f g h i j k l : ℕ)
+    → set (set (set (set (set (set (set (set (set (set (set (set state 0 a) 1 b) 2 c) 3 d) 4 e) 5 f) 6 g) 7 h) 8 i) 9 j) 10 k) 11 l
+    ≡ a ∷ b ∷ c ∷ d ∷ e ∷ f ∷ g ∷ h ∷ i ∷ j ∷ k ∷ l ∷ []
+all-stored (s0 ∷ s1 ∷ s2 ∷ s3 ∷ s4 ∷ s5 ∷ s6 ∷ s7 ∷ s8 ∷ s9 ∷ s10 ∷ s11 ∷ []) n a b c d e f g h i j k l = refl
+all-stored [] n a b c d e f g h i j k l = absurd (omega arith)
+all-stored (s0 ∷ []) n a b c d e f g h i j k l = absurd (omega arith)
+all-stored (s0 ∷ s1 ∷ []) n a b c d e f g h i j k l = absurd (omega arith)
+all-stored (s0 ∷ s1 ∷ s2 ∷ []) n a b c d e f g h i j k l = absurd (omega arith)
+all-stored (s0 ∷ s1 ∷ s2 ∷ s3 ∷ []) n a b c d e f g h i j k l = absurd (omega arith)
+all-stored (s0 ∷ s1 ∷ s2 ∷ s3 ∷ s4 ∷ []) n a b c d e f g h i j k l = absurd (omega arith)
+all-stored (s0 ∷ s1 ∷ s2 ∷ s3 ∷ s4 ∷ s5 ∷ []) n a b c d e f g h i j k l = absurd (omega arith)
+all-stored (s0 ∷ s1 ∷ s2 ∷ s3 ∷ s4 ∷ s5 ∷ s6 ∷ []) n a b c d e f g h i j k l = absurd (omega arith)
+all-stored (s0 ∷ s1 ∷ s2 ∷ s3 ∷ s4 ∷ s5 ∷ s6 ∷ s7 ∷ []) n a b c d e f g h i j k l = absurd (omega arith)
+all-stored (s0 ∷ s1 ∷ s2 ∷ s3 ∷ s4 ∷ s5 ∷ s6 ∷ s7 ∷ s8 ∷ []) n a b c d e f g h i j k l = absurd (omega arith)
+all-stored (s0 ∷ s1 ∷ s2 ∷ s3 ∷ s4 ∷ s5 ∷ s6 ∷ s7 ∷ s8 ∷ s9 ∷ []) n a b c d e f g h i j k l = absurd (omega arith)
+all-stored (s0 ∷ s1 ∷ s2 ∷ s3 ∷ s4 ∷ s5 ∷ s6 ∷ s7 ∷ s8 ∷ s9 ∷ s10 ∷ []) n a b c d e f g h i j k l = absurd (omega arith)
+all-stored (s0 ∷ s1 ∷ s2 ∷ s3 ∷ s4 ∷ s5 ∷ s6 ∷ s7 ∷ s8 ∷ s9 ∷ s10 ∷ s11 ∷ s12 ∷ s) n a b c d e f g h i j k l = absurd (omega arith)
 
--- ---- the seven counts
+-- ---- the reader: its seven counts
 
 pub not-above : (n : ℕ) (counts : List ℕ) {b : Bool} → n ≤ limit → anyAbove counts ≡ b → anyAbove (n ∷ counts) ≡ b
 unfolding anyAbove
@@ -99,26 +106,46 @@ module _ (state : List ℕ) where
 
 -- ---- the ends of a call
 
-module _ (input image output state : List ℕ) where
-  pub not-ten : (length state ≡ 10 → ⊥) → leftBy 20 image output state ≡ called input image output state
+module _ (input memory output numbers bytes state : List ℕ) where
+  pub not-twelve : (length state ≡ 12 → ⊥) → leftBy 20 memory output bytes state ≡ called input memory output numbers bytes state
   unfolding called
-  not-ten h = simp (ne-eqb (length state) 10 h, pick-true)
+  not-twelve h = simp (ne-eqb (length state) 12 h, pick-true)
 
-  -- what a call on ten numbers comes to, by what they are as a reader's state
-  made-known : (made told′ : Unpacked) → length state ≡ 10 → made ≡ readerIn state → made ≡ told′
-      → calledWith input image output state told′ ≡ called input image output state
+  -- what a call on twelve numbers comes to, by what they are as a reader's state
+  made-known : (made known : Unpacked) → length state ≡ 12 → made ≡ readerIn state → made ≡ known
+      → calledWith input memory output numbers bytes state known ≡ called input memory output numbers bytes state
   unfolding called
-  made-known made told′ h e k = simp (eq-eqb (length state) 10 h, pick-false, sym e, k)
+  made-known made known h e k = simp (eq-eqb (length state) 12 h, pick-false, sym e, k)
 
-  pub out-of-range : (made : Unpacked) → length state ≡ 10 → made ≡ readerIn state → made ≡ OutOfRange
-      → leftBy 21 image output state ≡ called input image output state
+  pub out-of-range : (made : Unpacked) → length state ≡ 12 → made ≡ readerIn state → made ≡ OutOfRange
+      → leftBy 21 memory output bytes state ≡ called input memory output numbers bytes state
   unfolding calledWith
   out-of-range made h e k = made-known made OutOfRange h e k
 
-  pub carried-out : (made : Unpacked) (reader : Reader) → length state ≡ 10 → made ≡ readerIn state
-      → made ≡ Fit reader → (r : Called) (image′ output′ : List ℕ) → stepOf r image′ output′ ≡ step (call input) (stateOf image output reader)
-      → (answer : ℕ) (state′ : List ℕ) → answer ≡ numberOf (r .outcome) → state′ ≡ packed (r .reader) (r .length) (reasonOf (r .outcome))
-      → leftBy answer image′ output′ state′ ≡ called input image output state
-  unfolding calledWith told
-  carried-out made reader h e k r image′ output′ s answer state′ n p =
-      simp (n, p) (ap told s) ∙ made-known made (Fit reader) h e k
+  pub no-places : (made : Unpacked) (reader : Reader) → length state ≡ 12 → made ≡ readerIn state → made ≡ Fit reader → placesFit numbers ≡ false
+      → leftBy 22 memory output bytes state ≡ called input memory output numbers bytes state
+  unfolding calledWith
+  no-places made reader h e k p = sym (simp (p, pick-false)) ∙ made-known made (Fit reader) h e k
+
+  pub carried-out : (made : Unpacked) (reader : Reader) → length state ≡ 12 → made ≡ readerIn state → made ≡ Fit reader → placesFit numbers ≡ true
+      → (used : ℕ) → used ≡ usedOf (length numbers / 2) → (row : List Place) → row ≡ placed numbers used
+      → (r : Called) (memory′ output′ bytes′ : List ℕ)
+      → stepOf r memory′ row (length numbers / 2) bytes′ output′
+      ≡ step (call input) (stateOf memory row (length numbers / 2) (selectionIn bytes (getD state 11 0)) output reader (getD state 10 0))
+      → lentOf bytes′ (r .count)
+      ≡ lentBy input (stateOf memory row (length numbers / 2) (selectionIn bytes (getD state 11 0)) output reader (getD state 10 0)) (lentOf bytes (getD state 11 0))
+      → (answer : ℕ) (state′ : List ℕ) → answer ≡ numberOf (r .outcome)
+      → state′ ≡ packed (r .reader) (r .length) (reasonOf (r .outcome)) (r .next) (r .count)
+      → leftBy answer memory′ output′ bytes′ state′ ≡ called input memory output numbers bytes state
+  unfolding calledWith stateIn tagsIn stepped told
+  carried-out made reader h e k p used u row w r memory′ output′ bytes′ s l answer state′ n q =
+      let same : row ≡ placed numbers (usedOf (length numbers / 2)) = w ∙ ap (placed numbers) u in
+      ap (λ (a : ℕ). leftBy a memory′ output′ bytes′ state′) n
+      ∙ ap (leftBy (numberOf (r .outcome)) memory′ output′ bytes′) q
+      ∙ ap₂ told s l
+      ∙ ap
+      (λ (places : List Place).
+      stepped input (stateOf memory places (length numbers / 2) (selectionIn bytes (getD state 11 0)) output reader (getD state 10 0)) (lentOf bytes (getD state 11 0)))
+      same
+      ∙ sym (simp (p, pick-true))
+      ∙ made-known made (Fit reader) h e k

@@ -1,18 +1,22 @@
-// The bench for C and Rust: one function on numbers and lent slices. A slice passes as a pointer and a length.
-use bench::calling::Called;
-use bench::calling::call;
-use bench::outcome::Outcome;
-use frame::finding::Reason;
-use frame::finding::reason_number;
+// The bench with a crate of tags, for C and Rust: one function on numbers and lent slices. A slice passes as a pointer and a length, the selection's 39 bytes
+// as a pointer.
+use bench::outcome::number_of;
+use bench::outcome::reason_of;
+use calls::calling::Called;
+use calls::calling::call;
+use population::places::Place;
 use reader::state::Reader;
 use reader::tally::Tally;
+ghost use mathlib.Core.Bool.{true};
 ghost use mathlib.Core.Path.{_≡_};
+ghost use Prim.Native.Nat.{_*_, _≤_};
 ghost use lib.ListN.{length};
-ghost use Rattle.bench.specs.Machine.{numberOf};
-ghost use Rattle.embed.specs.Kept.{kept, keptDrop, keptAnswer, keptBy};
-ghost use Rattle.embed.specs.Packed.{readerIn, leftBy, called as calledOn};
+ghost use Rattle.bench.specs.Machine.{numberOf, reasonOf};
+ghost use Rattle.population.specs.Below.{allBelow};
+ghost use Rattle.embed.specs.Packed.{packed, readerIn, leftBy, called as calledOn};
+ghost use Rattle.embed.specs.Placed.{usedOf, smallAt, placesFit, placed};
 
-// The most that a count of the tally can hold.
+// The most that a count of the tally can hold, and a number of a place.
 const LIMIT: u64 = 4294967295;
 
 // The numbers of the packed state, as a reader's state.
@@ -23,7 +27,7 @@ enum Unpacked {
 
 // The reader of a cursor and seven counts, or that a count is more than a tally can hold: then it has a bit above theirs.
 fn reader_of(state: &[u64]) -> Unpacked
-    requires { ⌜ length (now state) ≡ 10 ⌝ }
+    requires { ⌜ length (now state) ≡ 12 ⌝ }
     ensures { λ r. ⌜ r ≡ readerIn (now (state .entry)) ⌝ }
 {
     let bits = state[1] | state[2] | state[3] | state[4] | state[5] | state[6] | state[7];
@@ -44,112 +48,149 @@ fn reader_of(state: &[u64]) -> Unpacked
     })
 }
 
-// Of the ten numbers only those are stored that a call may have changed: it costs as much as half the rest of a drop to store all.
-
-// Nothing changed but what is told of this call.
-fn keep(state: &mut [u64])
-    requires { ⌜ length (now state) ≡ 10 ⌝ }
-    ensures { λ _. ⌜ now (state .exit) ≡ kept (now (state .entry)) ⌝ }
+// A crate has no more than sixteen tags: of more numbers only these are looked at, and the call says that they are too many.
+fn used_of(tags: usize) -> usize
+    ensures { λ r. ⌜ r ≡ usedOf tags ⌝ }
 {
-    state[8] = 0;
-    state[9] = 0;
-}
-
-// A byte was dropped: the cursor, and the count of its reason.
-fn keep_drop(state: &mut [u64], reader: Reader, reason: Reason)
-    requires { ⌜ length (now state) ≡ 10 ⌝ }
-    ensures { λ _. ⌜ now (state .exit) ≡ keptDrop (now (state .entry)) reader reason ⌝ }
-{
-    let tally = reader.tally;
-    state[0] = reader.cursor as u64;
-    state[8] = 0;
-    state[9] = reason_number(reason);
-    match reason {
-        Reason::NoHeader => state[3] = tally.header as u64,
-        Reason::WrongType => state[4] = tally.kind as u64,
-        Reason::TooLong => state[5] = tally.long as u64,
-        Reason::WrongCheck => state[6] = tally.check as u64,
-        Reason::WrongEnd => state[7] = tally.end as u64,
+    if 16 < tags {
+        return 16;
     }
+    tags
 }
 
-// A command was answered: the cursor, the good and the error count, and the length of the frame.
-fn keep_answer(state: &mut [u64], reader: Reader, written: usize)
-    requires { ⌜ length (now state) ≡ 10 ⌝ }
-    ensures { λ _. ⌜ now (state .exit) ≡ keptAnswer (now (state .entry)) reader written ⌝ }
+// None of the first n numbers is more than a place can hold.
+fn are_small(numbers: &[u64], n: usize) -> bool
+    requires { ⌜ (n ≤ 32) × (n ≤ length (now numbers)) ⌝ }
+    ensures { λ r. ⌜ r ≡ allBelow (smallAt (now (numbers .entry))) n ⌝ }
+{
+    let mut i = 0;
+    while i < n {
+        if LIMIT < numbers[i] {
+            return false;
+        }
+        i += 1;
+    }
+    true
+}
+
+// The numbers are two for each tag, such as a place can hold.
+fn are_places(numbers: &[u64]) -> bool
+    ensures { λ r. ⌜ r ≡ placesFit (now (numbers .entry)) ⌝ }
+{
+    let n = numbers.len();
+    if n % 2 != 0 {
+        return false;
+    }
+    let used = used_of(n / 2);
+    are_small(numbers, 2 * used)
+}
+
+// The places of the first tags, in a row of sixteen.
+fn places_of(numbers: &[u64], tags: usize) -> [Place; 16]
+    requires { ⌜
+        (tags ≤ 16) × ((2 * tags ≤ length (now numbers)) × (allBelow (smallAt (now numbers)) (2 * tags) ≡ true))
+        ⌝ }
+    ensures { λ r. ⌜ r ≡ placed (now (numbers .entry)) tags ⌝ }
+{
+    let nowhere = Place { from: 0, size: 0 };
+    let mut places = [nowhere; 16];
+    let mut i = 0;
+    while i < tags {
+        let from = numbers[2 * i];
+        let size = numbers[2 * i + 1];
+        places[i] = Place {
+            from: from as u32,
+            size: size as u32,
+        };
+        i += 1;
+    }
+    places
+}
+
+// All twelve numbers are stored.
+fn store(state: &mut [u64], reader: Reader, length: usize, reason: u64, next: usize, count: usize)
+    requires { ⌜ lib.ListN.length (now state) ≡ 12 ⌝ }
+    ensures { λ _. ⌜ now (state .exit) ≡ packed reader length reason next count ⌝ }
 {
     let tally = reader.tally;
     state[0] = reader.cursor as u64;
     state[1] = tally.good as u64;
     state[2] = tally.error as u64;
-    state[8] = written as u64;
-    state[9] = 0;
+    state[3] = tally.header as u64;
+    state[4] = tally.kind as u64;
+    state[5] = tally.long as u64;
+    state[6] = tally.check as u64;
+    state[7] = tally.end as u64;
+    state[8] = length as u64;
+    state[9] = reason;
+    state[10] = next as u64;
+    state[11] = count as u64;
 }
 
-// What the call changed is stored, and its number told.
+// What the call handed back is stored, and its number told.
 fn tell(state: &mut [u64], called: Called) -> u64
-    requires { ⌜ length (now state) ≡ 10 ⌝ }
-    ensures { λ r. ⌜ (r ≡ numberOf (called .outcome)) × (now (state .exit) ≡ keptBy (now (state .entry)) called (called .outcome)) ⌝ }
+    requires { ⌜ length (now state) ≡ 12 ⌝ }
+    ensures { λ r. ⌜
+        (r ≡ numberOf (called .outcome))
+        × (now (state .exit) ≡ packed (called .reader) (called .length) (reasonOf (called .outcome)) (called .next) (called .count))
+        ⌝ }
 {
     let outcome = called.outcome;
-    let reader = called.reader;
-    match outcome {
-        Outcome::Dropped(reason) => {
-            keep_drop(state, reader, reason);
-            3
-        }
-        Outcome::Answered => {
-            keep_answer(state, reader, called.length);
-            0
-        }
-        Outcome::AtEnd => {
-            keep(state);
-            1
-        }
-        Outcome::Incomplete => {
-            keep(state);
-            2
-        }
-        Outcome::PastEnd => {
-            keep(state);
-            10
-        }
-        Outcome::BadImage => {
-            keep(state);
-            11
-        }
-        Outcome::ShortOutput => {
-            keep(state);
-            12
-        }
-        Outcome::FullTally => {
-            keep(state);
-            13
-        }
-    }
+    let reason = reason_of(outcome);
+    store(
+        state,
+        called.reader,
+        called.length,
+        reason,
+        called.next,
+        called.count,
+    );
+    number_of(outcome)
 }
 
-// One call of the bench, for any slices. The ten numbers of `state` are the cursor, the counts of good answers, error answers and bytes dropped for
-// each of the five reasons, the length of the frame written, and the reason of a drop, 0 for none. The result is document 01's answer
-// number, or 20 where `state` does not have ten numbers, or 21 where a count is more than a tally can hold; under these two nothing changes.
+// One call over a crate of tags, for any slices. `places` has two numbers for each tag: where it begins in the memory, and how many bytes it has. The twelve
+// numbers of `state` are the cursor, the counts of good answers, error answers and bytes dropped for each of the five reasons, the length of the frame
+// written, the reason of a drop, 0 for none, the number of the first tag that may still be handed out, 16 for none, and how many bytes the selection has.
+// The result is the answer number, or 20 where `state` does not have twelve numbers, 21 where a count is more than a tally can hold, 22 where `places`
+// has an odd number of numbers, or one that no place can hold; under these three nothing changes.
 #[no_mangle]
 pub extern "C" fn poldrisk_call(
     input: &[u8],
-    image: &mut [u8],
+    memory: &mut [u8],
     output: &mut [u8],
+    places: &[u64],
+    selection: &mut [u8; 39],
     state: &mut [u64],
 ) -> u64
     ensures { λ r. ⌜
-        leftBy r (now (image .exit)) (now (output .exit)) (now (state .exit))
-        ≡ calledOn (now (input .entry)) (now (image .entry)) (now (output .entry)) (now (state .entry))
+        leftBy r (now (memory .exit)) (now (output .exit)) (now (selection .exit)) (now (state .exit))
+        ≡ calledOn (now (input .entry)) (now (memory .entry)) (now (output .entry)) (now (places .entry)) (now (selection .entry)) (now (state .entry))
         ⌝ }
 {
-    if state.len() != 10 {
+    if state.len() != 12 {
         return 20;
     }
     let Unpacked::Fit(reader) = reader_of(state) else {
         return 21;
     };
-    let called = call(input, image, output, reader);
+    if !are_places(places) {
+        return 22;
+    }
+    let tags = places.len() / 2;
+    let used = used_of(tags);
+    let row = places_of(places, used);
+    let next = state[10] as usize;
+    let count = state[11] as usize;
+    let called = call(
+        input,
+        memory,
+        output,
+        selection,
+        row,
+        tags,
+        reader,
+        next,
+        count,
+    );
     tell(state, called)
 }

@@ -3,7 +3,7 @@ use Prim.Native.Nat.{ℕ, _+_, _-_, _≤_, _<_}
 use borrow.Author.Tests.{le-leb}
 use lib.Dec.{leb}
 use lib.ListN.{take, drop}
-use mathlib.Core.Bool.{Bool, true, false, and-false}
+use mathlib.Core.Bool.{Bool, true, false, and-true, and-false}
 use mathlib.Core.List.{List}
 use mathlib.Core.Path.{_≡_, ap, sym, _∙_}
 use native.Mathlib.Omega.{arith}
@@ -11,7 +11,7 @@ use Rattle.frame.specs.Bytes.{part}
 use Rattle.image.specs.Image.{good}
 use Rattle.population.proofs.Below.{below-not}
 use Rattle.population.specs.Below.{allBelow}
-use Rattle.population.specs.Places.{placeAt, inside, imageAt, apart, apartBelow, goodAt, goodPopulation}
+use Rattle.population.specs.Places.{placeAt, inside, imageAt, apart, apartBelow, goodAlone, goodAt, goodPopulation}
 use Rattle.population.specs.declared.places.Place.{Place}
 
 -- the image at a place, as the code cuts it out of the memory
@@ -61,3 +61,20 @@ module _ (memory : List ℕ) (tags : ℕ) (places : List Place) (few : tags ≤ 
       let e : i ≡ tags = omega arith in
       let whole : allBelow (goodAt memory places) tags ≡ true = rw (← e) h in
       simp (le-leb tags 16 few, whole)
+
+-- ---- one tag
+
+module _ (memory : List ℕ) (p : Place) where
+  pub alone-outside : inside memory p ≡ false → false ≡ goodAlone memory p
+  unfolding goodAlone
+  alone-outside h = simp h
+
+  pub alone-inside : inside memory p ≡ true → (r : Bool) → r ≡ good (cut memory p) → r ≡ goodAlone memory p
+  unfolding goodAlone
+  alone-inside h r e = simp h (e ∙ ap good (cut-is memory p))
+
+pub population-alone : (memory : List ℕ) (tags : ℕ) (places : List Place) → tags ≡ 1
+    → (r : Bool) → r ≡ goodAlone memory (placeAt places 0) → r ≡ goodPopulation memory tags places
+unfolding goodPopulation goodAt goodAlone apartBelow allBelow
+population-alone memory tags places one r e =
+    e ∙ sym (and-true (goodAlone memory (placeAt places 0))) ∙ sym (ap (λ (n : ℕ). goodPopulation memory n places) one)

@@ -4,11 +4,11 @@ use borrow.Author.Tests.{eq-eqb, ne-eqb, lt-ltb, le-ltb}
 use lib.Dec.{ltb}
 use mathlib.Core.Bool.{Bool, true, false}
 use mathlib.Core.List.{List}
-use mathlib.Core.Path.{_≡_, ap, sym, subst, _∙_}
+use mathlib.Core.Path.{_≡_, refl, ap, sym, subst, _∙_}
 use native.Mathlib.Omega.{arith}
-use Rattle.frame.proofs.Picks.{pick-true, pick-false}
+use Rattle.frame.proofs.Picks.{pick-true, pick-false, by-test}
 use Rattle.frame.specs.Bytes.{pick, byte}
-use Rattle.population.proofs.Firsts.{NonePasses, first-cases, first-same}
+use Rattle.population.proofs.Firsts.{NonePasses, first-none, first-cases, first-same}
 use Rattle.population.proofs.Populations.{cut, cut-is}
 use Rattle.population.specs.Lowest.{selectedImage, selected, selectedAt, firstTag, lowest}
 use Rattle.population.specs.Matching.{matches}
@@ -44,6 +44,11 @@ module _ (memory : List ℕ) (tags : ℕ) (places : List Place) (s : List ℕ) (
   pub lowest-few : tags ≤ 16 → lowest memory tags places s start ≡ firstTag (selectedAt memory s places) places start (tags - start)
   unfolding lowest
   lowest-few h = simp (le-ltb 16 tags h, pick-false)
+
+  pub lowest-none : tags ≤ start → NoTag ≡ lowest memory tags places s start
+  unfolding lowest
+  lowest-none h =
+      by-test (λ (r : Lowest). NoTag ≡ r) (ltb 16 tags) (λ _. refl) (λ _. sym (first-none (selectedAt memory s places) places start tags h))
 
   pub lowest-cases : tags ≤ 16 → (P : Lowest → Type 0)
       → (NonePasses (selectedAt memory s places) start tags → P NoTag)

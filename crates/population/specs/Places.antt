@@ -36,6 +36,10 @@ apartFrom places i j = apart (placeAt places i) (placeAt places j)
 unfoldable pub apartBelow : List Place → ℕ → Bool
 apartBelow places i = allBelow (apartFrom places i) i
 
+-- an image that is there and good
+unfoldable pub goodAlone : List ℕ → Place → Bool
+goodAlone memory p = inside memory p && good (imageAt memory p)
+
 unfoldable pub goodAt : List ℕ → List Place → ℕ → Bool
 goodAt memory places i =
     inside memory (placeAt places i) && (apartBelow places i && good (imageAt memory (placeAt places i)))

@@ -30,13 +30,7 @@ fn is_selected(memory: &[u8], place: Place, selection: &[u8]) -> bool
 }
 
 // From number `start` on. More than sixteen tags are none.
-pub fn find_lowest(
-    memory: &[u8],
-    tags: usize,
-    places: [Place; 16],
-    selection: &[u8],
-    start: usize,
-) -> Lowest
+fn scan(memory: &[u8], tags: usize, places: [Place; 16], selection: &[u8], start: usize) -> Lowest
     ensures { λ r. ⌜ r ≡ lowest (now (memory .entry)) tags places (now (selection .entry)) start ⌝ }
 {
     if 16 < tags {
@@ -54,4 +48,20 @@ pub fn find_lowest(
         i += 1;
     }
     Lowest::NoTag
+}
+
+// The same, and where no number is left, which is so at most calls, the scan is not begun.
+pub fn find_lowest(
+    memory: &[u8],
+    tags: usize,
+    places: [Place; 16],
+    selection: &[u8],
+    start: usize,
+) -> Lowest
+    ensures { λ r. ⌜ r ≡ lowest (now (memory .entry)) tags places (now (selection .entry)) start ⌝ }
+{
+    if tags <= start {
+        return Lowest::NoTag;
+    }
+    scan(memory, tags, places, selection, start)
 }

@@ -4,7 +4,7 @@ use frame::bytes::reaches;
 use image::good::is_good;
 ghost use mathlib.Core.Path.{_≡_};
 ghost use Prim.Native.Nat.{_<_};
-ghost use Rattle.population.specs.Places.{apart, apartBelow, goodAt, goodPopulation};
+ghost use Rattle.population.specs.Places.{apart, apartBelow, goodAlone, goodAt, goodPopulation};
 
 // The bytes of one tag's image. Sums of two of these are taken as usize, where none wraps.
 pub struct Place {
@@ -76,9 +76,9 @@ fn is_good_scattered(memory: &[u8], tags: usize, places: [Place; 16]) -> bool
     true
 }
 
-// Every call asks this. Places that rise, each behind the end of the one before, overlap nowhere: one pass shows it. Only where they do
-// not rise are they held against one another.
-pub fn is_good_population(memory: &[u8], tags: usize, places: [Place; 16]) -> bool
+// Places that rise, each behind the end of the one before, overlap nowhere: one pass shows it. Only where they do not rise are they held
+// against one another.
+fn is_good_rising(memory: &[u8], tags: usize, places: [Place; 16]) -> bool
     ensures { λ r. ⌜ r ≡ goodPopulation (now (memory .entry)) tags places ⌝ }
 {
     if 16 < tags {
@@ -104,4 +104,28 @@ pub fn is_good_population(memory: &[u8], tags: usize, places: [Place; 16]) -> bo
         i += 1;
     }
     true
+}
+
+// A place that stands alone overlaps none.
+fn is_good_alone(memory: &[u8], p: Place) -> bool
+    ensures { λ r. ⌜ r ≡ goodAlone (now (memory .entry)) p ⌝ }
+{
+    let from = p.from as usize;
+    let size = p.size as usize;
+    if !reaches(memory, from, size) {
+        return false;
+    }
+    let to = from + size;
+    is_good(&memory[from..to])
+}
+
+// Every call asks this. One tag is tested without a pass: its place is then read where the caller stored it, and the array is not copied first.
+pub fn is_good_population(memory: &[u8], tags: usize, places: [Place; 16]) -> bool
+    ensures { λ r. ⌜ r ≡ goodPopulation (now (memory .entry)) tags places ⌝ }
+{
+    if tags == 1 {
+        let first = places[0];
+        return is_good_alone(memory, first);
+    }
+    is_good_rising(memory, tags, places)
 }

@@ -1,5 +1,5 @@
 -- `call` meets its contract: what is decided and done is the machine's step.
-use Rattle.calls.proofs.Steps.{decided-doable, called}
+use Rattle.calls.proofs.Steps.{decided-doable, called, lent-called}
 use borrow.Author.Needs.{needs}
 use Rattle.calls.proofs.calling.call.Statement.{statement}
 use Rattle.calls.proofs.calling.call.Tie as tie
@@ -19,8 +19,11 @@ same-length-2 c = search needs
 returns : tie.Need-returns
 returns c =
     let done = c .before .before .before .before in
-    let start = done .before .before .before .before .before .before .before .before .before .before .before in
-    called _ _ _ _ (done .carry-out .ensures (start .args .places) (start .args .tags)) (done .before .before .before .before .decide .ensures)
+    let decided = done .before .before .before .before in
+    let start = decided .before .before .before .before .before .before .before in (
+      called _ _ _ _ (done .carry-out .ensures .0 (start .args .places) (start .args .tags)) (decided .decide .ensures),
+      lent-called _ _ _ _ _ (done .carry-out .ensures .1) (decided .decide .ensures),
+    )
 
 pub call-spec : {M : Type 1} → statement M
 call-spec =

@@ -1,5 +1,5 @@
 -- `carry_out` meets its contract: each job is done as the machine does it.
-use Rattle.calls.proofs.Doing.{can-drop, can-select, can-miss, can-aim, cut-parameters, cut-at, does-stay, does-drop, does-select, does-miss, does-aim}
+use Rattle.calls.proofs.Doing.{can-drop, can-select, can-miss, can-aim, cut-parameters, cut-at, does-stay, does-drop, does-select, does-miss, does-aim, lends-stay, lends-drop, lends-select, lends-miss, lends-aim}
 use borrow.Author.Needs.{needs}
 use native.Mathlib.Omega.{arith}
 use Rattle.calls.proofs.calling.carry_out.Statement.{statement}
@@ -120,31 +120,38 @@ aim-requires c κs =
     can-aim _ _ _ (start .args .reader) _ (start .pre) _ (told .job5 .given .1) .ready
 
 returns : tie.Need-returns
-returns c = λ places tags. does-stay _ _ _ _ _ _ _ places tags _ _ (c .before .job .given .1)
+returns c = (λ places tags. does-stay _ _ _ _ _ _ _ places tags _ _ (c .before .job .given .1), lends-stay _ _ _ _ _ (c .before .job .given .1))
 
 returns-2 : tie.Need-returns-2
 returns-2 c =
-    λ places tags. does-drop _ _ _ _ _ _ _ places tags _ _ (c .before .before .job2 .given .1) _ (c .with-dropped .ensures)
+    let told = c .before .before in (
+      λ places tags. does-drop _ _ _ _ _ _ _ places tags _ _ (told .job2 .given .1) _ (c .with-dropped .ensures),
+      lends-drop _ _ _ _ _ (told .job2 .given .1),
+    )
 
 same-length : tie.Need-same-length
 same-length c = search needs
 
 returns-3 : tie.Need-returns-3
 returns-3 c =
-    λ places tags.
     let selected = c .before .before in
     let told = selected .before .before .before .before .before in
     let start = told .before .before .before .before .before .before in
-    does-select _ _ _ _ _ _ _ places tags _ _ (told .job3 .given .1) _ (cut-at (start .args .input .now) (start .args .reader .cursor) _) _ _ _ (selected .select .ensures)
+    let cut = cut-at (start .args .input .now) (start .args .reader .cursor) _ in (
+      λ places tags. does-select _ _ _ _ _ _ _ places tags _ _ (told .job3 .given .1) _ cut _ _ _ (selected .select .ensures),
+      lends-select _ _ _ _ _ (told .job3 .given .1) _ cut _ _ _ _ _ _ (selected .select .ensures),
+    )
 
 same-length-2 : tie.Need-same-length-2
 same-length-2 c = search needs
 
 returns-4 : tie.Need-returns-4
 returns-4 c =
-    λ places tags.
     let missed = c .before .before in
-    does-miss _ _ _ _ _ _ _ places tags _ _ _ (missed .before .before .before .job4 .given .1) _ _ (missed .miss .ensures)
+    let told = missed .before .before .before in (
+      λ places tags. does-miss _ _ _ _ _ _ _ places tags _ _ _ (told .job4 .given .1) _ _ (missed .miss .ensures),
+      lends-miss _ _ _ _ _ _ (told .job4 .given .1) _ _ _ _ _ (missed .miss .ensures),
+    )
 
 same-length-3 : tie.Need-same-length-3
 same-length-3 c = search needs
@@ -154,12 +161,14 @@ same-length-4 c = search needs
 
 returns-5 : tie.Need-returns-5
 returns-5 c =
-    λ places tags.
     let aimed = c .before .before .before .before in
     let gone = aimed .before in
     let told = gone .before .before .before .before .before .before in
     let start = told .before .before .before .before .before .before in
-    does-aim _ _ _ _ _ _ _ places tags _ _ (told .job5 .given .1) _ (cut-parameters (start .args .input .now) _ _) _ (gone .next-after .ensures) _ _ _ (aimed .aim .ensures)
+    let cut = cut-parameters (start .args .input .now) _ _ in (
+      λ places tags. does-aim _ _ _ _ _ _ _ places tags _ _ (told .job5 .given .1) _ cut _ (gone .next-after .ensures) _ _ _ (aimed .aim .ensures),
+      lends-aim _ _ _ _ _ (told .job5 .given .1) _ _ _ _ _ _ _ _ _ (aimed .aim .ensures),
+    )
 
 pub carry-out-spec : {M : Type 1} → statement M
 carry-out-spec =

@@ -11,7 +11,7 @@ put-line-requires : tie.Need-put-line-requires
 put-line-requires c κs =
     let made = c .before .before .before .before .before .before in
     let start = made .before .before .before .before .before .before .before .before .before in
-    called-printable _ _ _ _ _ _ _ _ (made .call .ensures) _ _ (start .pre)
+    called-printable _ _ _ _ _ _ _ _ (made .call .ensures .0) _ _ (start .pre)
 
 is-last-requires : tie.Need-is-last-requires
 is-last-requires c κs = search needs
@@ -30,7 +30,7 @@ returns c =
     let put = c .before .before .before .before in
     let made = put .before .before .before .before .before .before .before in
     let a = made .before .before .before .before .before .before .before .before .before .args in
-    called-line (a .input .now) _ _ _ _ _ _ _ (made .call .ensures) _ _ _ _ _ (put .put-line .ensures) (c .is-last .ensures)
+    called-line (a .input .now) _ _ _ _ _ _ _ (made .call .ensures .0) _ _ _ _ _ (put .put-line .ensures) (c .is-last .ensures)
 
 pub write-line-spec : {M : Type 1} → statement M
 write-line-spec =

@@ -8,10 +8,10 @@ use native.Mathlib.Omega.{arith}
 use Rattle.population.proofs.Below.{none-below}
 use Rattle.population.specs.Below.{allBelow}
 use Rattle.reader.specs.Tallies.{limit}
-use Rattle.embed_crate.proofs.Placing.{far-one, small-more}
-use Rattle.embed_crate.specs.Placed.{smallAt}
-use Rattle.embed_crate.proofs.are_small.Statement.{statement}
-use Rattle.embed_crate.proofs.are_small.Tie as tie
+use Rattle.embed.proofs.Placing.{far-one, small-more}
+use Rattle.embed.specs.Placed.{smallAt}
+use Rattle.embed.proofs.are_small.Statement.{statement}
+use Rattle.embed.proofs.are_small.Tie as tie
 
 abbrev Inv-loop : tie.InvT-loop
 Inv-loop numbers n i₀ i = (n ≤ 32) × ((n ≤ length numbers) × ((i ≤ n) × (allBelow (smallAt numbers) i ≡ true)))

@@ -12,7 +12,7 @@ use Rattle.frame.proofs.Tests.{and-right}
 use Rattle.population.proofs.Below.{below-each, below-more, below-not}
 use Rattle.population.specs.Below.{allBelow}
 use Rattle.reader.specs.Tallies.{limit}
-use Rattle.embed_crate.specs.Placed.{tagsIn, usedOf, smallAt, placesFit, placeIn, placed}
+use Rattle.embed.specs.Placed.{tagsIn, usedOf, smallAt, placesFit, placeIn, placed}
 
 -- ---- how many are used
 

@@ -1,10 +1,10 @@
 -- `store` meets its contract.
 use lib.ListN.{length-set}
 use native.Mathlib.Omega.{arith}
-use Rattle.embed_crate.proofs.Packing.{all-stored}
+use Rattle.embed.proofs.Packing.{all-stored}
 use borrow.Author.Needs.{needs}
-use Rattle.embed_crate.proofs.store.Statement.{statement}
-use Rattle.embed_crate.proofs.store.Tie as tie
+use Rattle.embed.proofs.store.Statement.{statement}
+use Rattle.embed.proofs.store.Tie as tie
 
 slice-write-state : tie.Need-slice-write-state
 slice-write-state c = search needs

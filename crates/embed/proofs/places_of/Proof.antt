@@ -9,10 +9,10 @@ use native.Mathlib.Omega.{arith}
 use Rattle.population.specs.Below.{allBelow}
 use Rattle.population.specs.declared.places.Place.{Place}
 use Rattle.reader.specs.Tallies.{limit}
-use Rattle.embed_crate.proofs.Placing.{small-each, placed-more}
-use Rattle.embed_crate.specs.Placed.{smallAt, placed}
-use Rattle.embed_crate.proofs.places_of.Statement.{statement}
-use Rattle.embed_crate.proofs.places_of.Tie as tie
+use Rattle.embed.proofs.Placing.{small-each, placed-more}
+use Rattle.embed.specs.Placed.{smallAt, placed}
+use Rattle.embed.proofs.places_of.Statement.{statement}
+use Rattle.embed.proofs.places_of.Tie as tie
 
 abbrev Inv-loop : tie.InvT-loop
 Inv-loop numbers tags places₀ i₀ places i =

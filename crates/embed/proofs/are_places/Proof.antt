@@ -1,9 +1,9 @@
 -- `are_places` meets its contract.
 use borrow.Author.Needs.{needs}
 use native.Mathlib.Omega.{arith}
-use Rattle.embed_crate.proofs.Placing.{used-small, used-there, odd, even}
-use Rattle.embed_crate.proofs.are_places.Statement.{statement}
-use Rattle.embed_crate.proofs.are_places.Tie as tie
+use Rattle.embed.proofs.Placing.{used-small, used-there, odd, even}
+use Rattle.embed.proofs.are_places.Statement.{statement}
+use Rattle.embed.proofs.are_places.Tie as tie
 
 returns : tie.Need-returns
 returns c = odd (c .before .before .args .numbers .now) (c .if1 .taken)

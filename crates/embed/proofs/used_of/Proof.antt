@@ -1,9 +1,9 @@
 -- `used_of` meets its contract.
 use borrow.Author.Tests.{lt-ltb, le-ltb}
 use Rattle.frame.proofs.Picks.{pick-true, pick-false}
-use Rattle.embed_crate.specs.Placed.{usedOf}
-use Rattle.embed_crate.proofs.used_of.Statement.{statement}
-use Rattle.embed_crate.proofs.used_of.Tie as tie
+use Rattle.embed.specs.Placed.{usedOf}
+use Rattle.embed.proofs.used_of.Statement.{statement}
+use Rattle.embed.proofs.used_of.Tie as tie
 
 returns : tie.Need-returns
 unfolding usedOf
