@@ -7,10 +7,11 @@ use mathlib.Core.List.{List, [], _∷_}
 use mathlib.Core.Logic.{_≢_}
 use mathlib.Core.Path.{_≡_, refl, ap}
 use native.Mathlib.Omega.{arith}
-use Rattle.bench.proofs.Answering.{one-more}
-use Rattle.bench.specs.Machine.{readerOf, numberOf, reasonOf}
-use Rattle.bench.specs.declared.outcome.Outcome.{Outcome}
-use Rattle.bench.specs.declared.outcome.Outcome.the-variants.{Answered, AtEnd, Incomplete, Dropped, PastEnd, BadImage, ShortOutput, FullTally}
+use Rattle.reader.proofs.Counts.{one-more}
+use Rattle.reader.specs.Outcomes.{numberOf, reasonOf}
+use Rattle.reader.specs.Readers.{readerOf}
+use Rattle.reader.specs.declared.outcome.Outcome.{Outcome}
+use Rattle.reader.specs.declared.outcome.Outcome.the-variants.{Answered, AtEnd, Incomplete, Dropped, PastEnd, BadImage, ShortOutput, FullTally}
 use Rattle.calls.proofs.Steps.{step-cases}
 use Rattle.calls.specs.Claims.{AnswerNumbers, DropReasons, NothingChanges, DropTakesOneByte}
 use Rattle.calls.specs.Machine.{State, stateOf, Call, Step, codeAt, aimJob, commandJob, foundJob, findJob, handOut, waiting, decide, unchanged, dropped, told, selecting, missed, acted, aimed, carriedOut, inputOf, restOf, step}

@@ -8,11 +8,11 @@ use mathlib.Core.List.{List, [], _∷_, _++_}
 use mathlib.Core.Logic.{_⊎_, _≢_, inl, inr, ⊎-elim}
 use mathlib.Core.Path.{_≡_, refl, ap, sym, subst, _∙_}
 use native.Mathlib.Omega.{arith}
-use Rattle.bench.proofs.Bounding.{total, counted-most, dropped-most}
-use Rattle.bench.specs.Machine.{numberOf, counted}
-use Rattle.bench.specs.Secrecy.{Command}
-use Rattle.bench.specs.declared.outcome.Outcome.{Outcome}
-use Rattle.bench.specs.declared.outcome.Outcome.the-variants.{Answered}
+use Rattle.reader.proofs.Counts.{total, one-answer-most, dropped-most}
+use Rattle.reader.specs.Outcomes.{numberOf}
+use Rattle.effects.specs.Secrecy.{Command}
+use Rattle.reader.specs.declared.outcome.Outcome.{Outcome}
+use Rattle.reader.specs.declared.outcome.Outcome.the-variants.{Answered}
 use Rattle.calls.proofs.Answering.{selecting-answers, nothing-changes}
 use Rattle.calls.proofs.Jobs.{tested}
 use Rattle.calls.proofs.Lowests.{lowest-good}
@@ -21,7 +21,7 @@ use Rattle.calls.proofs.Secrets.{code-there}
 use Rattle.calls.proofs.Staying.{step-good}
 use Rattle.calls.proofs.Steps.{Tested, Accepts, handOutAt, commandAt, found-tag, frame-inside, tested-cases, step-cases}
 use Rattle.calls.specs.Claims.{count, takes, inventories, WorkFalls, Bound, answerOf}
-use Rattle.calls.specs.Machine.{State, Call, call, Step, codeAt, waiting, unchanged, dropped, told, selecting, missed, nextAfter, imageFor, actFor, acted, aimed, carriedOut, inputOf, restOf, step, tagsLeft, bytesLeft, work, run, after}
+use Rattle.calls.specs.Machine.{State, Call, call, Step, codeAt, waiting, unchanged, dropped, told, selecting, missed, nextAfter, imageFor, actFor, acted, aimed, carriedOut, inputOf, restOf, step, tagsLeft, bytesLeft, work, run, after, counted}
 use Rattle.calls.specs.Secrecy.{isNone, acceptedBy, accepted}
 use Rattle.calls.specs.declared.deciding.Aimed.{Aimed}
 use Rattle.calls.specs.declared.deciding.Job.{Job}
@@ -266,7 +266,7 @@ module _ (input : List ℕ) (most : ℕ) (small : most < limit) where
 
   aimed-keeps : (s : State) → Tested input s → (start : ℕ) (a : Aimed) (p : List ℕ)
       → lowest (s .memory) (s .tags) (s .places) (s .selection) start ≡ Tag (a .number) (a .place) → a .behind ≤ length input → Keeps s (aimed s a p)
-  unfolding aimed acted actFor imageFor
+  unfolding aimed acted actFor imageFor counted
   aimed-keeps s t start a p e there =
       let image : List ℕ = imageAt (s .memory) (a .place) in
       let fine : good image ≡ true =
@@ -275,7 +275,7 @@ module _ (input : List ℕ) (most : ℕ) (small : most < limit) where
       record {
         inside = there;
         roomy = framed-room (answer image (actOf image (a .code) p)) (s .output) (t .room) (answer-most image p (a .code) fine);
-        one-more = counted-most (s .reader .tally) (actOf image (a .code) p);
+        one-more = one-answer-most (s .reader .tally) (isError (actOf image (a .code) p));
       }
 
   told-keeps : (s : State) → Tested input s → (code b : ℕ) (selection : List ℕ) (reader : Reader) → reader .cursor ≤ length input

@@ -8,7 +8,8 @@ use mathlib.Core.List.{List, [], _∷_}
 use mathlib.Core.Logic.{_≢_}
 use mathlib.Core.Path.{_≡_, refl, ap, ap₂, sym, subst, _∙_}
 use native.Mathlib.Omega.{arith}
-use Rattle.bench.specs.Machine.{readerOf, numberOf}
+use Rattle.reader.specs.Outcomes.{numberOf}
+use Rattle.reader.specs.Readers.{readerOf}
 use Rattle.calls.proofs.Absents.{act-without}
 use Rattle.calls.proofs.Lowests.{TheLowest, lowest-inside}
 use Rattle.calls.proofs.Secrets.{code-there, parameters-there}

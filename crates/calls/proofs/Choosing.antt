@@ -9,9 +9,9 @@ use mathlib.Core.List.{List}
 use mathlib.Core.Logic.{_⊎_, inl, inr, ⊎-elim}
 use mathlib.Core.Path.{_≡_, refl, ap, ap₂, _∙_}
 use native.Mathlib.Omega.{arith}
-use Rattle.bench.proofs.Secret.{Pair, sight, gx}
-use Rattle.bench.proofs.Twins.{byte-behind}
-use Rattle.bench.specs.Secrecy.{passwordsAt}
+use Rattle.effects.proofs.Secret.{Pair, sight, gx}
+use Rattle.effects.proofs.Twins.{byte-behind}
+use Rattle.effects.specs.Secrecy.{passwordsAt}
 use Rattle.frame.proofs.Picks.{pick-true, pick-false}
 use Rattle.frame.proofs.Tests.{either, all-at}
 use Rattle.frame.specs.Bytes.{pick, byte}

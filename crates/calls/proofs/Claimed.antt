@@ -3,11 +3,13 @@ use Rattle.calls.proofs.Answering as Answering
 use Rattle.calls.proofs.Bounding as Bounding
 use Rattle.calls.proofs.Carrying as Carrying
 use Rattle.calls.proofs.Counting as Counting
+use Rattle.calls.proofs.Effecting as Effecting
 use Rattle.calls.proofs.Framing as Framing
 use Rattle.calls.proofs.Handing as Handing
+use Rattle.calls.proofs.Instances as Instances
 use Rattle.calls.proofs.Secrets as Secrets
 use Rattle.calls.proofs.Staying as Staying
-use Rattle.calls.specs.Claims.{AnswerNumbers, DropReasons, NothingChanges, DropTakesOneByte, AnswerIsOneFrame, HandOut, ExactlyOnce, InventoryStarts, CommandsAim, CommandsMiss, SetSelect, OneTagOnly, GoodStaysGood, History, WorkFalls, Bound, Demand3}
+use Rattle.calls.specs.Claims.{AnswerNumbers, DropReasons, NothingChanges, DropTakesOneByte, AnswerIsOneFrame, HandOut, ExactlyOnce, InventoryStarts, CommandsAim, CommandsMiss, SetSelect, Starred, WriteEffect, LockEffect, KillEffect, NoOtherEffect, GapsStay, PermalocksStay, OneTagOnly, GoodStaysGood, History, WorkFalls, Bound, Demand3, Demand3CanBeMet}
 
 pub answer-numbers : AnswerNumbers
 answer-numbers = Answering.answer-numbers
@@ -42,6 +44,27 @@ commands-miss = Carrying.commands-miss
 pub set-select : SetSelect
 set-select = Carrying.set-select
 
+pub starred : Starred
+starred = Instances.starred
+
+pub write-effect : WriteEffect
+write-effect = Effecting.write-effect
+
+pub lock-effect : LockEffect
+lock-effect = Effecting.lock-effect
+
+pub kill-effect : KillEffect
+kill-effect = Effecting.kill-effect
+
+pub no-other-effect : NoOtherEffect
+no-other-effect = Effecting.no-other-effect
+
+pub gaps-stay : GapsStay
+gaps-stay = Effecting.gaps-stay
+
+pub permalocks-stay : PermalocksStay
+permalocks-stay = Effecting.permalocks-stay
+
 pub one-tag-only : OneTagOnly
 one-tag-only = Staying.one-tag-only
 
@@ -59,3 +82,6 @@ bound = Bounding.bound
 
 pub demand3 : Demand3
 demand3 = Secrets.demand3
+
+pub demand3-can-be-met : Demand3CanBeMet
+demand3-can-be-met = Instances.demand3-can-be-met

@@ -7,14 +7,14 @@ use mathlib.Core.List.{List, [], _∷_}
 use mathlib.Core.Logic.{_≢_}
 use mathlib.Core.Path.{_≡_, refl, ap, sym, _∙_}
 use native.Mathlib.Nat.{add-zero, add-assoc}
-use Rattle.bench.proofs.Answering.{one-more}
-use Rattle.bench.proofs.Histories.{raises}
-use Rattle.bench.specs.Machine.{numberOf, reasonOf, counted}
-use Rattle.bench.specs.declared.outcome.Outcome.{Outcome}
-use Rattle.bench.specs.declared.outcome.Outcome.the-variants.{Answered}
+use Rattle.reader.proofs.Counts.{one-more}
+use Rattle.reader.proofs.Counts.{raises}
+use Rattle.reader.specs.Outcomes.{numberOf, reasonOf}
+use Rattle.reader.specs.declared.outcome.Outcome.{Outcome}
+use Rattle.reader.specs.declared.outcome.Outcome.the-variants.{Answered}
 use Rattle.calls.proofs.Steps.{step-cases}
 use Rattle.calls.specs.Claims.{count, isGood, isError, isDropped, History}
-use Rattle.calls.specs.Machine.{State, Call, Step, unchanged, dropped, told, plainError, selectTaken, selecting, missed, imageFor, actFor, acted, aimed, step, run, after}
+use Rattle.calls.specs.Machine.{State, Call, Step, unchanged, dropped, told, plainError, selectTaken, selecting, missed, imageFor, actFor, acted, aimed, step, run, after, counted}
 use Rattle.calls.specs.declared.deciding.Aimed.{Aimed}
 use Rattle.frame.proofs.FrameBytes.{code-frame}
 use Rattle.frame.proofs.Picks.{pick-true, pick-false}

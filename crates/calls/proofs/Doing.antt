@@ -9,11 +9,11 @@ use mathlib.Core.List.{List, [], _∷_}
 use mathlib.Core.Path.{_≡_, refl, ap, ap₂, sym, subst, _∙_}
 use native.Mathlib.Nat.{add-assoc}
 use native.Mathlib.Omega.{arith}
-use Rattle.bench.specs.Machine.{readerOf, counted}
-use Rattle.bench.specs.declared.outcome.Outcome.{Outcome}
-use Rattle.bench.specs.declared.outcome.Outcome.the-variants.{Answered, Dropped}
+use Rattle.reader.specs.Readers.{readerOf}
+use Rattle.reader.specs.declared.outcome.Outcome.{Outcome}
+use Rattle.reader.specs.declared.outcome.Outcome.the-variants.{Answered, Dropped}
 use Rattle.calls.specs.Calls.{selectionIn, stepOf, Lent, lentOf, withSelected, lentAfter, Ready, Framed, Aimable, Doable, AimDone, Told, Selected}
-use Rattle.calls.specs.Machine.{State, stateOf, Step, parametersAt, unchanged, dropped, told, plainError, selectTaken, selecting, missed, nextAfter, imageFor, actFor, acted, aimed, carriedOut}
+use Rattle.calls.specs.Machine.{State, stateOf, Step, parametersAt, unchanged, dropped, told, plainError, selectTaken, selecting, missed, nextAfter, imageFor, actFor, acted, aimed, carriedOut, counted}
 use Rattle.calls.specs.declared.calling.Called.{Called}
 use Rattle.calls.specs.declared.deciding.Aimed.{Aimed}
 use Rattle.calls.specs.declared.deciding.Job.{Job}

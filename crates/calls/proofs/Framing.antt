@@ -5,7 +5,7 @@ use mathlib.Core.Bool.{true}
 use mathlib.Core.List.{List, [], _∷_}
 use mathlib.Core.Path.{_≡_, refl, ap, sym, _∙_}
 use native.Mathlib.Omega.{arith}
-use Rattle.bench.specs.Machine.{numberOf}
+use Rattle.reader.specs.Outcomes.{numberOf}
 use Rattle.calls.proofs.Lowests.{lowest-good}
 use Rattle.calls.proofs.Steps.{Tested, Accepts, handOutAt, commandAt, errorAt, found-tag, frame-inside, step-cases}
 use Rattle.calls.specs.Claims.{OneFrame, AnswerIsOneFrame}

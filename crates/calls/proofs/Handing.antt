@@ -8,17 +8,18 @@ use mathlib.Core.List.{List, [], _∷_, _++_, append-assoc}
 use mathlib.Core.Logic.{_≢_}
 use mathlib.Core.Path.{_≡_, refl, ap, ap₂, sym, subst, _∙_}
 use native.Mathlib.Omega.{arith}
-use Rattle.bench.specs.Machine.{readerOf, numberOf, counted}
-use Rattle.bench.specs.Secrecy.{Command}
-use Rattle.bench.specs.declared.outcome.Outcome.{Outcome}
-use Rattle.bench.specs.declared.outcome.Outcome.the-variants.{Answered}
+use Rattle.reader.specs.Outcomes.{numberOf}
+use Rattle.reader.specs.Readers.{readerOf}
+use Rattle.effects.specs.Secrecy.{Command}
+use Rattle.reader.specs.declared.outcome.Outcome.{Outcome}
+use Rattle.reader.specs.declared.outcome.Outcome.the-variants.{Answered}
 use Rattle.calls.proofs.Answering.{selecting-answers}
 use Rattle.calls.proofs.Lowests.{TheLowest, lowest-inside}
 use Rattle.calls.proofs.Secrets.{code-there, parameters-there}
 use Rattle.calls.proofs.Staying.{replaced-same, present-notifies, selected-present, hand-out-notifies, hand-out-stores-nothing, step-good}
 use Rattle.calls.proofs.Steps.{Tested, found-tag, handOutAt, commandAt, step-cases}
 use Rattle.calls.specs.Claims.{HandsOut, HandOut, passing, isCandidate, candidates, numberIn, handedBy, handed, ExactlyOnce, InventoryStarts}
-use Rattle.calls.specs.Machine.{State, Call, Step, parametersAt, waiting, unchanged, dropped, told, missed, nextAfter, imageFor, actFor, acted, aimed, inputOf, restOf, step, after}
+use Rattle.calls.specs.Machine.{State, Call, Step, parametersAt, waiting, unchanged, dropped, told, missed, nextAfter, imageFor, actFor, acted, aimed, inputOf, restOf, step, after, counted}
 use Rattle.calls.specs.declared.deciding.Aimed.{Aimed}
 use Rattle.calls.specs.Secrecy.{isNone, acceptedBy, accepted}
 use Rattle.frame.proofs.FrameBytes.{take-written, drop-written}

@@ -6,9 +6,9 @@ use mathlib.Core.Bool.{Bool, true, false, _&&_}
 use mathlib.Core.List.{List}
 use mathlib.Core.Logic.{_⊎_, inl, inr, ⊎-elim}
 use mathlib.Core.Path.{_≡_, refl, ap, ap₂, sym, subst, _∙_}
-use Rattle.bench.proofs.Quiet.{Public, Untold, public-act, same-act}
-use Rattle.bench.proofs.Secret.{Pair, sight, same-answer, pair-after}
-use Rattle.bench.specs.Secrecy.{Hidden, Command}
+use Rattle.effects.proofs.Quiet.{Public, Untold, public-act, same-act}
+use Rattle.effects.proofs.Secret.{Pair, sight, same-answer, pair-after}
+use Rattle.effects.specs.Secrecy.{Hidden, Command}
 use Rattle.calls.proofs.Choosing.{Blind, same-selected}
 use Rattle.frame.specs.Bytes.{reaches}
 use Rattle.image.specs.Image.{good, view}

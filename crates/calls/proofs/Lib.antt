@@ -7,9 +7,11 @@ pub mod Claimed
 pub mod Computed
 pub mod Counting
 pub mod Doing
+pub mod Effecting
 pub mod Framing
 pub mod Handing
 pub mod Hiding
+pub mod Instances
 pub mod Jobs
 pub mod Lowests
 pub mod Secrets

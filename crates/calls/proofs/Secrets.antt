@@ -9,17 +9,18 @@ use mathlib.Core.List.{List, [], _∷_, _++_}
 use mathlib.Core.Logic.{_⊎_, inl, inr, ⊎-elim}
 use mathlib.Core.Path.{_≡_, refl, ap, ap₂, sym, subst, _∙_}
 use native.Mathlib.Omega.{arith}
-use Rattle.bench.proofs.Quiet.{Untold, untold}
-use Rattle.bench.proofs.Secret.{none-append}
-use Rattle.bench.specs.Machine.{readerOf, numberOf, reasonOf, counted}
-use Rattle.bench.specs.Secrecy.{passwordsAt, Command, carriesNone, noneCarries}
-use Rattle.bench.specs.declared.outcome.Outcome.{Outcome}
+use Rattle.effects.proofs.Quiet.{Untold, untold}
+use Rattle.effects.proofs.Secret.{none-append}
+use Rattle.reader.specs.Outcomes.{numberOf, reasonOf}
+use Rattle.reader.specs.Readers.{readerOf}
+use Rattle.effects.specs.Secrecy.{passwordsAt, Command, carriesNone, noneCarries}
+use Rattle.reader.specs.declared.outcome.Outcome.{Outcome}
 use Rattle.calls.proofs.Choosing.{Blind, good-blind}
 use Rattle.calls.proofs.Hiding.{Secret, AlikeTag, Silent, ActedAlike, TagAlike, Both, Quiet, lowest-alike, acts, act-keeps}
 use Rattle.calls.proofs.Lowests.{TheLowest}
 use Rattle.calls.proofs.Steps.{Tested, Accepts, lowestTag, handOutAt, commandAt, errorAt, found-tag, job-cases}
 use Rattle.calls.specs.Claims.{Demand3, Premises, withMemory}
-use Rattle.calls.specs.Machine.{State, stateOf, Call, call, Step, codeAt, parametersAt, commandJob, aimJob, foundJob, findJob, handOut, waiting, decide, unchanged, dropped, told, selecting, missed, nextAfter, imageFor, actFor, acted, aimed, carriedOut, inputOf, restOf, step, run}
+use Rattle.calls.specs.Machine.{State, stateOf, Call, call, Step, codeAt, parametersAt, commandJob, aimJob, foundJob, findJob, handOut, waiting, decide, unchanged, dropped, told, selecting, missed, nextAfter, imageFor, actFor, acted, aimed, carriedOut, inputOf, restOf, step, run, counted}
 use Rattle.calls.specs.Secrecy.{isNone, acceptedBy, accepted, MayDiffer, PasswordsStay, SameCall, Throughout}
 use Rattle.calls.specs.declared.deciding.Aimed.{Aimed}
 use Rattle.calls.specs.declared.deciding.Job.{Job}

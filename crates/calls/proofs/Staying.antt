@@ -127,7 +127,7 @@ module _ (input : List ℕ) (s : State) (t : Tested input s) (n : ℕ) (p : Plac
 -- ---- Set Select leaves memory, tags and places, and a good selection
 
 module _ (s : State) (p : List ℕ) (behind : ℕ) where
-  selecting-memory : selecting s p behind .next .memory ≡ s .memory
+  pub selecting-memory : selecting s p behind .next .memory ≡ s .memory
   unfolding selecting told
   selecting-memory = by-test (λ (x : Step). x .next .memory ≡ s .memory) (taken p) (λ _. refl) (λ _. refl)
 

@@ -8,9 +8,9 @@ use mathlib.Core.List.{List, []}
 use mathlib.Core.Logic.{_≢_}
 use mathlib.Core.Path.{_≡_, refl, ap, sym, subst, _∙_}
 use native.Mathlib.Omega.{arith}
-use Rattle.bench.specs.Machine.{numberOf}
-use Rattle.bench.specs.declared.outcome.Outcome.{Outcome}
-use Rattle.bench.specs.declared.outcome.Outcome.the-variants.{AtEnd, Incomplete, PastEnd, BadImage, ShortOutput, FullTally}
+use Rattle.reader.specs.Outcomes.{numberOf}
+use Rattle.reader.specs.declared.outcome.Outcome.{Outcome}
+use Rattle.reader.specs.declared.outcome.Outcome.the-variants.{AtEnd, Incomplete, PastEnd, BadImage, ShortOutput, FullTally}
 use Rattle.calls.proofs.Lowests.{TheLowest, the-lowest, lowest-inside, lowest-good}
 use Rattle.calls.specs.Calls.{Lent, lentAfter, lentBy, Ready, Framed, Aimable, Doable}
 use Rattle.calls.specs.Machine.{State, Call, call, Step, codeAt, parametersAt, errorWithout, aimJob, commandJob, foundJob, findJob, handOut, waiting, decide, unchanged, dropped, selecting, missed, aimed, carriedOut, inputOf, restOf, step}

@@ -6,9 +6,9 @@ use mathlib.Core.Path.{_≡_}
 use lib.Dec.{leb}
 use lib.ListN.{length, take, replicate}
 use lib.Seq.{sets}
-use Rattle.bench.specs.Machine.{readerOf, counted}
-use Rattle.bench.specs.declared.outcome.Outcome.the-variants.{Answered}
-use Rattle.calls.specs.Machine.{State, stateOf, Step, parametersAt, decide, plainError, selectTaken}
+use Rattle.reader.specs.Readers.{readerOf}
+use Rattle.reader.specs.declared.outcome.Outcome.the-variants.{Answered}
+use Rattle.calls.specs.Machine.{State, stateOf, Step, parametersAt, decide, plainError, selectTaken, counted}
 use Rattle.calls.specs.declared.calling.Called.{Called}
 use Rattle.calls.specs.declared.deciding.Aimed.{Aimed}
 use Rattle.calls.specs.declared.deciding.Job.{Job}

@@ -2,17 +2,21 @@
 -- statement is proved in proofs/Claimed.antt.
 use Prim.Native.Nat.{ℕ, zero, suc, _+_, _-_, _*_, _%_, _≤_, _<_}
 use mathlib.Core.Bool.{Bool, true, false, not, _&&_, _||_}
-use mathlib.Core.List.{List, [], _∷_, _++_}
+use mathlib.Core.List.{List, [], _∷_, _++_, map}
 use mathlib.Core.Logic.{_⊎_, _≢_}
 use mathlib.Core.Path.{_≡_}
 use lib.Dec.{eqb, leb, ltb}
 use lib.ListN.{length, take, drop, replicate}
-use Rattle.bench.specs.Machine.{numberOf, reasonOf, readerOf}
-use Rattle.bench.specs.Secrecy.{Command}
+use Rattle.reader.specs.Outcomes.{numberOf, reasonOf}
+use Rattle.reader.specs.Readers.{readerOf}
+use Rattle.effects.specs.Claims.{Overwritten, Effect, Written, NamedWords, pairsAfter, Permalocks}
+use Rattle.effects.specs.Secrecy.{Command}
 use Rattle.calls.specs.Machine.{State, stateOf, Call, call, Step, inputOf, restOf, waiting, step, work, run, after}
 use Rattle.calls.specs.Secrecy.{isNone, acceptedBy, accepted, MayDiffer, Outside, SameCall, Throughout}
-use Rattle.frame.specs.Bytes.{pick, firstOf, byte, number, part}
+use Rattle.calls.specs.Starred.{cases, given, expected}
+use Rattle.frame.specs.Bytes.{pick, firstOf, byte, number, part, twoBytes}
 use Rattle.frame.specs.Frames.{sum}
+use Rattle.image.specs.Image.{view, bankOf, endOf, killPassword, accessPassword}
 use Rattle.population.specs.Claims.{Holds, placeOfTag, imageOf, Candidate, LowestRules}
 use Rattle.population.specs.Lowest.{lowest}
 use Rattle.population.specs.Matching.{matches}
@@ -24,6 +28,7 @@ use Rattle.population.specs.declared.places.Place.{Place}
 use Rattle.reader.specs.Readers.{freshReader}
 use Rattle.reader.specs.declared.state.Reader.{Reader}
 use Rattle.tag.specs.Claims.{comesTo, framed}
+use Rattle.tag.specs.Locks.{pairs, bitsOf}
 
 -- the answer number of a call, and the reason of its drop (0: none)
 abbrev pub answerOf : Call → State → ℕ
@@ -250,6 +255,73 @@ pub record SelectionSet (c : Call) (s : State) (x : Step) : Type 0 where
 abbrev pub SetSelect : Type 0
 SetSelect = (c : Call) (s : State) → Accepting c s → codeOf c s ≡ 0x0C → SelectionSet c s (step c s)
 
+-- ---- Demand 2: each command has its effect and answer
+
+-- The starred cases, fifteen of them, each on a crate of one tag: answer, frame and the whole state that is left
+abbrev pub Starred : Type 0
+Starred = (map given cases ≡ map expected cases) × (length cases ≡ 15)
+
+-- a command that is aimed at tag n, at the place p; the frame and the image that it comes to there
+abbrev pub AimedAt : Call → State → ℕ → Place → Type 0
+AimedAt c s n p = Accepting c s × (lowest (s .memory) (s .tags) (s .places) (s .selection) 0 ≡ Tag n p)
+
+abbrev pub madeAt : Place → Step → List ℕ × List ℕ
+madeAt p x = (take (x .length) (x .next .output), imageOf (x .next .memory) p)
+
+-- "a write lands whole or not at all"; "only on the named words", and EPC word 0 kept by P4's rule
+abbrev pub WriteEffect : Type 0
+WriteEffect =
+    (c : Call) (s : State) (n : ℕ) (p : Place)
+    → AimedAt c s n p
+    → codeOf c s ≡ 0x49
+    → Effect (imageOf (s .memory) p) (madeAt p (step c s))
+    (λ new. Written (imageOf (s .memory) p) (parametersOf c s) new (number (imageOf (s .memory) p) 10))
+    × (byte (madeAt p (step c s) .0) 2 ≢ 0xFF → NamedWords (imageOf (s .memory) p) (parametersOf c s))
+
+-- "all pairs are stored"
+abbrev pub LockEffect : Type 0
+LockEffect =
+    (c : Call) (s : State) (n : ℕ) (p : Place)
+    → AimedAt c s n p
+    → codeOf c s ≡ 0x82
+    → Effect (imageOf (s .memory) p) (madeAt p (step c s))
+    (Overwritten 20 (twoBytes (bitsOf (pairsAfter (imageOf (s .memory) p) (parametersOf c s)))) (imageOf (s .memory) p))
+
+-- "state becomes 1"
+abbrev pub KillEffect : Type 0
+KillEffect =
+    (c : Call) (s : State) (n : ℕ) (p : Place)
+    → AimedAt c s n p
+    → codeOf c s ≡ 0x65
+    → Effect (imageOf (s .memory) p) (madeAt p (step c s)) (Overwritten 22 (1 ∷ []) (imageOf (s .memory) p))
+
+-- no other call stores anything
+abbrev pub NoOtherEffect : Type 0
+NoOtherEffect =
+    (c : Call) (s : State)
+    → (Accepting c s → (codeOf c s ≢ 0x49) × ((codeOf c s ≢ 0x82) × (codeOf c s ≢ 0x65)))
+    → step c s .next .memory ≡ s .memory
+
+-- "Gap bytes never change.": of no tag, whichever the command is for
+abbrev pub GapsStay : Type 0
+GapsStay =
+    (c : Call) (s : State) (j i : ℕ)
+    → j < s .tags
+    → 24 ≤ i
+    → ((bank : ℕ)
+    → bank ≤ 3
+    → (i < bankOf (view (imageOf (s .memory) (placeOfTag (s .places) j))) bank .offset)
+    ⊎ (endOf (bankOf (view (imageOf (s .memory) (placeOfTag (s .places) j))) bank) ≤ i))
+    → byte (imageOf (step c s .next .memory) (placeOfTag (s .places) j)) i ≡ byte (imageOf (s .memory) (placeOfTag (s .places) j)) i
+
+-- A pair whose permalock bit is set never changes, whatever calls come: bytes 20 and 21 of each tag's image, before and after them.
+abbrev pub PermalocksStay : Type 0
+PermalocksStay =
+    (calls : List Call) (s : State) (j : ℕ)
+    → j < s .tags
+    → Permalocks (pairs (number (imageOf (s .memory) (placeOfTag (s .places) j)) 20))
+    (pairs (number (imageOf (after calls s .memory) (placeOfTag (s .places) j)) 20))
+
 -- ---- The memory
 
 -- "A command aimed at one tag leaves all bytes of the others.": nothing is stored, or it is stored at the lowest matching present tag alone
@@ -357,3 +429,20 @@ Demand3 =
     (s : State) (n : List ℕ) (differs : ℕ → Bool) (calls : List Call)
     → Premises s n differs calls (withMemory s n)
     → Throughout (SameCall (s .tags) (s .places) differs (s .memory) n) (run calls s) (run calls (withMemory s n))
+
+-- The premises can be met by a crate of three tags, the first two of them with other passwords in the one run than in the other, with an inventory that is handed
+-- out in full, and a Set Select, a Read, a Write, a Lock and a Kill accepted.
+pub record PremisesMet (s : State) (n : List ℕ) (differs : ℕ → Bool) (calls : List Call) : Type 0 where
+  pub premises : Premises s n differs calls (withMemory s n)
+  pub three-tags : s .tags ≡ 3
+  pub two-differ : (differs 0 ≡ true) × ((differs 1 ≡ true) × (differs 2 ≡ false))
+  pub kill-differs : (i : ℕ) → i < 2
+      → killPassword (imageOf (s .memory) (placeOfTag (s .places) i)) ≢ killPassword (imageOf n (placeOfTag (s .places) i))
+  pub access-differs : (i : ℕ) → i < 2
+      → accessPassword (imageOf (s .memory) (placeOfTag (s .places) i)) ≢ accessPassword (imageOf n (placeOfTag (s .places) i))
+  pub handed-out : handed calls s ≡ 1 ∷ 2 ∷ []
+  pub six-commands : map (λ m. m .code) (accepted calls s) ≡ 0x22 ∷ 0x0C ∷ 0x39 ∷ 0x49 ∷ 0x82 ∷ 0x65 ∷ []
+  pub select-taken : after calls s .selection ≢ s .selection
+
+abbrev pub Demand3CanBeMet : Type 0
+Demand3CanBeMet = (s : State) × (n : List ℕ) × (differs : ℕ → Bool) × (calls : List Call) × PremisesMet s n differs calls

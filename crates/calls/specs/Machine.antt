@@ -5,9 +5,9 @@ use mathlib.Core.Bool.{not}
 use mathlib.Core.List.{List, [], _∷_}
 use lib.Dec.{eqb, ltb}
 use lib.ListN.{length, drop}
-use Rattle.bench.specs.Machine.{readerOf, counted}
-use Rattle.bench.specs.declared.outcome.Outcome.{Outcome}
-use Rattle.bench.specs.declared.outcome.Outcome.the-variants.{Answered, AtEnd, Incomplete, Dropped, PastEnd, BadImage, ShortOutput, FullTally}
+use Rattle.reader.specs.Readers.{readerOf}
+use Rattle.reader.specs.declared.outcome.Outcome.{Outcome}
+use Rattle.reader.specs.declared.outcome.Outcome.the-variants.{Answered, AtEnd, Incomplete, Dropped, PastEnd, BadImage, ShortOutput, FullTally}
 use Rattle.calls.specs.declared.deciding.Aimed.{Aimed}
 use Rattle.calls.specs.declared.deciding.Job.{Job}
 use Rattle.calls.specs.declared.deciding.Job.the-variants.{Stay, DropByte, Select, Miss, Aim}
@@ -27,6 +27,7 @@ use Rattle.population.specs.declared.lowest.Lowest.the-variants.{NoTag, Tag}
 use Rattle.population.specs.declared.places.Place.{Place}
 use Rattle.reader.specs.Tallies.{full, withGood, withError, withDropped}
 use Rattle.reader.specs.declared.state.Reader.{Reader}
+use Rattle.reader.specs.declared.tally.Tally.{Tally}
 use Rattle.tag.specs.Answers.{answer, changed, isError}
 use Rattle.tag.specs.Commands.{parse, actOf}
 use Rattle.tag.specs.declared.commands.Act.{Act}
@@ -122,6 +123,10 @@ decide input s =
     (handOut (s .reader .cursor) (findJob input (s .memory) (s .tags) (s .places) (s .selection) (s .reader .cursor)) (waiting s))))))
 
 -- ---- and what that comes to
+
+-- "Each answer 0 or 3 raises exactly one of them by one"
+unfoldable pub counted : Act → Tally → Tally
+counted act t = pick (isError act) (withError t) (withGood t)
 
 -- "Under 1, 2 and 10 to 13 the next state is the old one"
 unfoldable pub unchanged : State → Outcome → Step

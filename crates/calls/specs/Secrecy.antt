@@ -4,8 +4,8 @@ use mathlib.Core.Bool.{Bool, true, false, _&&_}
 use mathlib.Core.List.{List, [], _∷_, _++_}
 use mathlib.Core.Path.{_≡_}
 use lib.Dec.{eqb}
-use Rattle.bench.specs.Machine.{numberOf, reasonOf}
-use Rattle.bench.specs.Secrecy.{passwordsAt, EqualElsewhere, Hidden, Command, noneCarries}
+use Rattle.reader.specs.Outcomes.{numberOf, reasonOf}
+use Rattle.effects.specs.Secrecy.{passwordsAt, EqualElsewhere, Hidden, Command, noneCarries}
 use Rattle.calls.specs.Machine.{State, Call, Step, waiting, step, restOf}
 use Rattle.frame.specs.Bytes.{pick, byte, part}
 use Rattle.frame.specs.Formats.{codeIn, parametersIn}

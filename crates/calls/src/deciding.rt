@@ -1,7 +1,6 @@
 // What a call is to do: every test in the order of document 01, "Answer numbers of a call", a tag that is still to hand out, and "Finding a command".
 // Nothing is changed here.
 use crate::absent::error_without;
-use bench::outcome::Outcome;
 use frame::finding::Found;
 use frame::finding::Reason;
 use frame::finding::find;
@@ -11,6 +10,7 @@ use population::lowest::find_lowest;
 use population::places::Place;
 use population::places::is_good_population;
 use population::selection::is_good_selection;
+use reader::outcome::Outcome;
 use reader::state::Reader;
 ghost use mathlib.Core.Path.{_≡_};
 ghost use Prim.Native.Nat.{_+_, _≤_};

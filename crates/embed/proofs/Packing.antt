@@ -8,7 +8,7 @@ use mathlib.Core.Bool.{Bool, true, false}
 use mathlib.Core.List.{List, [], _∷_}
 use mathlib.Core.Path.{_≡_, refl, sym, ap, ap₂, _∙_}
 use native.Mathlib.Omega.{arith}
-use Rattle.bench.specs.Machine.{numberOf, reasonOf}
+use Rattle.reader.specs.Outcomes.{numberOf, reasonOf}
 use Rattle.calls.specs.Calls.{selectionIn, stepOf, lentOf, lentBy}
 use Rattle.calls.specs.Machine.{stateOf, call, step}
 use Rattle.calls.specs.declared.calling.Called.{Called}

@@ -4,7 +4,7 @@ use mathlib.Core.Bool.{Bool, false, not, _||_}
 use mathlib.Core.List.{List, [], _∷_}
 use lib.Dec.{eqb, ltb}
 use lib.ListN.{length, getD}
-use Rattle.bench.specs.Machine.{numberOf, reasonOf}
+use Rattle.reader.specs.Outcomes.{numberOf, reasonOf}
 use Rattle.calls.specs.Calls.{selectionIn, Lent, lentOf, lentBy}
 use Rattle.calls.specs.Machine.{State, stateOf, Step, call, step}
 use Rattle.embed.specs.Placed.{tagsIn, usedOf, placesFit, placed}

@@ -1,17 +1,17 @@
 // The bench with a crate of tags, for C and Rust: one function on numbers and lent slices. A slice passes as a pointer and a length, the selection's 39 bytes
 // as a pointer.
-use bench::outcome::number_of;
-use bench::outcome::reason_of;
 use calls::calling::Called;
 use calls::calling::call;
 use population::places::Place;
+use reader::outcome::number_of;
+use reader::outcome::reason_of;
 use reader::state::Reader;
 use reader::tally::Tally;
 ghost use mathlib.Core.Bool.{true};
 ghost use mathlib.Core.Path.{_≡_};
 ghost use Prim.Native.Nat.{_*_, _≤_};
 ghost use lib.ListN.{length};
-ghost use Rattle.bench.specs.Machine.{numberOf, reasonOf};
+ghost use Rattle.reader.specs.Outcomes.{numberOf, reasonOf};
 ghost use Rattle.population.specs.Below.{allBelow};
 ghost use Rattle.embed.specs.Packed.{packed, readerIn, leftBy, called as calledOn};
 ghost use Rattle.embed.specs.Placed.{usedOf, smallAt, placesFit, placed};

@@ -5,9 +5,9 @@ use mathlib.Core.Bool.{Bool}
 use mathlib.Core.List.{List}
 use mathlib.Core.Path.{_≡_, ap, sym, subst, _∙_}
 use native.Mathlib.Omega.{arith}
-use Rattle.bench.specs.Machine.{numberOf}
-use Rattle.bench.specs.declared.outcome.Outcome.{Outcome}
-use Rattle.bench.specs.declared.outcome.Outcome.the-variants.{Answered}
+use Rattle.reader.specs.Outcomes.{numberOf}
+use Rattle.reader.specs.declared.outcome.Outcome.{Outcome}
+use Rattle.reader.specs.declared.outcome.Outcome.the-variants.{Answered}
 use Rattle.calls.proofs.Claimed.{answer-is-one-frame}
 use Rattle.calls.specs.Calls.{selectionIn, stepOf}
 use Rattle.calls.specs.Machine.{State, stateOf, Call, call, Step, step}

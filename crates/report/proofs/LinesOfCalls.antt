@@ -8,10 +8,10 @@ use mathlib.Core.Path.{_≡_, refl, ap, sym, _∙_}
 use native.Mathlib.Omega.{arith}
 use Rattle.calls.proofs.Claimed.{nothing-changes}
 use Rattle.calls.specs.Claims.{answerOf}
-use Rattle.bench.specs.Machine.{numberOf}
+use Rattle.reader.specs.Outcomes.{numberOf}
 use Rattle.calls.specs.Machine.{State, call, Step, step}
-use Rattle.bench.specs.declared.outcome.Outcome.{Outcome}
-use Rattle.bench.specs.declared.outcome.Outcome.the-variants.{Answered, AtEnd, Incomplete, Dropped, PastEnd, BadImage, ShortOutput, FullTally}
+use Rattle.reader.specs.declared.outcome.Outcome.{Outcome}
+use Rattle.reader.specs.declared.outcome.Outcome.the-variants.{Answered, AtEnd, Incomplete, Dropped, PastEnd, BadImage, ShortOutput, FullTally}
 use Rattle.reader.specs.declared.tally.Tally.{Tally}
 use Rattle.frame.specs.Bytes.{pick, byte}
 use Rattle.frame.specs.declared.finding.Reason.the-variants.{NoHeader}

@@ -7,10 +7,10 @@ use mathlib.Core.Logic.{_⊎_, _↔_, _≢_}
 use mathlib.Core.Path.{_≡_}
 use lib.Dec.{eqb}
 use lib.ListN.{length, take, drop, replicate, getD}
-use Rattle.bench.specs.Machine.{numberOf}
-use Rattle.bench.specs.Sample.{sample, killed}
-use Rattle.bench.specs.declared.outcome.Outcome.{Outcome}
-use Rattle.bench.specs.declared.outcome.Outcome.the-variants.{Answered, AtEnd, Incomplete, Dropped, PastEnd, BadImage, ShortOutput, FullTally}
+use Rattle.reader.specs.Outcomes.{numberOf}
+use Rattle.effects.specs.Sample.{sample, killed}
+use Rattle.reader.specs.declared.outcome.Outcome.{Outcome}
+use Rattle.reader.specs.declared.outcome.Outcome.the-variants.{Answered, AtEnd, Incomplete, Dropped, PastEnd, BadImage, ShortOutput, FullTally}
 use Rattle.calls.specs.Claims.{answerOf, count, takes, inventories}
 use Rattle.calls.specs.Machine.{State, call, Step, waiting, step, run, after}
 use Rattle.calls.specs.Secrecy.{isNone, accepted}

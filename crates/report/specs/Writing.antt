@@ -5,7 +5,7 @@ use mathlib.Core.List.{List}
 use mathlib.Core.Path.{_≡_}
 use lib.Dec.{ltb}
 use lib.ListN.{length, take}
-use Rattle.bench.specs.declared.outcome.Outcome.the-variants.{Answered}
+use Rattle.reader.specs.declared.outcome.Outcome.the-variants.{Answered}
 use Rattle.calls.specs.Calls.{selectionIn}
 use Rattle.calls.specs.Machine.{State, stateOf, call, step}
 use Rattle.calls.specs.declared.calling.Called.{Called}

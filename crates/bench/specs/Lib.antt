@@ -1,5 +1,0 @@
-pub mod Calls
-pub mod Claims
-pub mod Machine
-pub mod Sample
-pub mod Secrecy
