@@ -1,6 +1,8 @@
 //! Images, commands and inputs for the tests, drawn from a seed. Values are drawn near the bounds
 //! of the rules, on both sides, since that is where two readings of a rule part.
 
+pub mod crates;
+
 use crate::model::crc16;
 
 /// A xorshift generator: the same seed gives the same run.
@@ -593,8 +595,17 @@ pub fn counts(random: &mut Random) -> [u64; 7] {
     counts
 }
 
-/// Input bytes: frames, damaged frames and noise, and now and then a cut at the end.
+/// Input bytes with commands for this tag.
 pub fn input(random: &mut Random, image: &[u8]) -> Vec<u8> {
+    input_of(random, |random| command(random, image))
+}
+
+/// Input bytes: frames, damaged frames and noise, and now and then a cut at the end.
+fn input_of(random: &mut Random, mut command: impl FnMut(&mut Random) -> (u8, Vec<u8>)) -> Vec<u8> {
+    let mut next_frame = |random: &mut Random| {
+        let (code, parameters) = command(random);
+        frame(code, &parameters)
+    };
     let mut bytes = Vec::new();
     for _ in 0..random.between(1, 5) {
         match random.below(20) {
@@ -604,18 +615,14 @@ pub fn input(random: &mut Random, image: &[u8]) -> Vec<u8> {
             }
             2 | 3 => bytes.extend(noise(random)),
             4..=6 => {
-                let (code, parameters) = command(random, image);
-                bytes.extend(damaged(random, frame(code, &parameters)));
+                let whole = next_frame(random);
+                bytes.extend(damaged(random, whole));
             }
-            _ => {
-                let (code, parameters) = command(random, image);
-                bytes.extend(frame(code, &parameters));
-            }
+            _ => bytes.extend(next_frame(random)),
         }
     }
     if random.percent(15) {
-        let (code, parameters) = command(random, image);
-        let mut last = frame(code, &parameters);
+        let mut last = next_frame(random);
         if random.percent(30) {
             last = damaged(random, last);
         }

@@ -1,10 +1,11 @@
 //! An independent implementation of the scope document ("Bench reader and tag: exact rules") and of
-//! the later changes "Why was the byte dropped?", "Locks put right for repeated permalocks" and "The
-//! tag keeps its own CRC word", written from these papers alone. It shares no code and no definition
-//! with the proved bench, so a mistake would have to be made twice to stay unseen. Quoted lines are
-//! the papers'.
+//! the later changes "Why was the byte dropped?", "Locks put right for repeated permalocks", "The tag
+//! keeps its own CRC word" and "Sixteen tags in the crate", written from these papers alone. It shares
+//! no code and no definition with the proved bench, so a mistake would have to be made twice to stay
+//! unseen. Quoted lines are the papers'.
 
 use std::cmp::Ordering;
+use std::ops::Range;
 
 /// Declares the counted branches: one name for each way through the rules.
 macro_rules! branches {
@@ -21,14 +22,22 @@ macro_rules! branches {
 
 branches! {
     // the tests 10 to 13
-    CURSOR_PAST_END CURSOR_WITHIN IMAGE_BAD IMAGE_GOOD OUTPUT_SHORT OUTPUT_ENOUGH
+    CURSOR_PAST_END CURSOR_WITHIN CRATE_BAD CRATE_GOOD OUTPUT_SHORT OUTPUT_ENOUGH
     GOOD_FULL ERROR_FULL NO_HEADER_FULL WRONG_TYPE_FULL TOO_LONG_FULL WRONG_CHECK_FULL
     WRONG_END_FULL TALLY_FREE
+    // the rules of a good crate
+    TAGS_TOO_MANY TAGS_16 TAGS_SEVERAL TAGS_1 TAGS_0 PLACE_WRAPS PLACE_LEAVES PLACE_TO_THE_END
+    PLACES_OVERLAP_NEXT PLACES_OVERLAP_APART FIRST_IMAGE_BAD LATER_IMAGE_BAD
+    SELECTION_EMPTY SELECTION_GOOD SELECTION_TOO_SHORT SELECTION_TARGET SELECTION_ACTION
+    SELECTION_RESERVED SELECTION_TRUNCATE SELECTION_MASK_SHORT SELECTION_MASK_LONG
     // the rules of a good image
     IMAGE_SHORTER_THAN_HEADER FORMAT_WRONG TOTAL_NOT_LENGTH TOTAL_ABOVE_2048
     RESERVED_WORDS_WRONG EPC_WORDS_FEW EPC_WORDS_MANY TID_WORDS_FEW TID_WORDS_MANY
     USER_WORDS_MANY RESERVED_OFFSET_LOW EPC_OFFSET_LOW TID_OFFSET_LOW USER_OFFSET_LOW
     LAST_END_HIGH LOCK_UPPER_BITS STATE_UNKNOWN EPC_LENGTH_HIGH CRC_WORD_WRONG
+    // handing out
+    HAND_OUT_NEXT HAND_OUT_PASSING_OVER HAND_OUT_ALL_PASSED_OVER HAND_OUT_NONE
+    HAND_OUT_AT_THE_END HAND_OUT_BEFORE_MORE
     // finding
     NOTHING_LEFT NO_HEADER TYPE_RESPONSE TYPE_NOTIFICATION TYPE_UNKNOWN ONLY_HEADER
     TYPE_BUT_NO_PL PL_81 PL_ABOVE_81 FRAME_CUT CHECK_WRONG CHECK_AND_END_WRONG END_WRONG ACCEPTED
@@ -38,24 +47,32 @@ branches! {
     REGION_KILL_TOUCHED REGION_KILL_UNTOUCHED REGION_ACCESS_TOUCHED REGION_ACCESS_UNTOUCHED
     // codes and counts
     CODE_UNKNOWN COUNTED_ERROR COUNTED_GOOD
+    // which tag
+    TAG_NOT_PRESENT TAG_NOT_MATCHING TAG_FIRST TAG_LATER TAG_NONE
+    MATCH_NO_SELECTION MATCH_STRAIGHT MATCH_NOT MATCH_TURNED_ROUND MATCH_TURNED_AWAY
+    MASK_EMPTY MASK_PAST_END MASK_TO_THE_END MASK_IN_EPC MASK_BEHIND_EPC MASK_IN_TID MASK_IN_USER
+    MASK_DIFFERS MASK_SPARE_BITS_DIFFER MASK_EQUAL
+    // Set Select
+    SELECT_TOO_SHORT SELECT_TARGET SELECT_ACTION SELECT_RESERVED SELECT_TRUNCATE
+    SELECT_MASK_SHORT SELECT_MASK_LONG SELECT_TAKEN
     // inventory
-    INVENTORY_PL INVENTORY_STATE INVENTORY_GOOD
+    INVENTORY_PL INVENTORY_NO_TAG INVENTORY_GOOD
     // Read
-    READ_PL READ_BANK READ_COUNT_0 READ_COUNT_33 READ_STATE READ_PASSWORD READ_RANGE
+    READ_PL READ_BANK READ_COUNT_0 READ_COUNT_33 READ_NO_TAG READ_PASSWORD READ_RANGE
     READ_KILL_LOCKED READ_ACCESS_LOCKED READ_RESERVED READ_EPC READ_TID READ_USER
     // Write
-    WRITE_PL_BELOW_9 WRITE_PL_NOT_COUNT WRITE_BANK WRITE_COUNT_0 WRITE_COUNT_33 WRITE_STATE
+    WRITE_PL_BELOW_9 WRITE_PL_NOT_COUNT WRITE_BANK WRITE_COUNT_0 WRITE_COUNT_33 WRITE_NO_TAG
     WRITE_PASSWORD WRITE_RANGE WRITE_KILL_LOCKED WRITE_ACCESS_LOCKED WRITE_EPC_LOCKED
     WRITE_TID_LOCKED WRITE_USER_LOCKED WRITE_CRC_WORD WRITE_NEW_LENGTH_HIGH WRITE_LENGTH_SHORTER
     WRITE_LENGTH_SAME WRITE_LENGTH_LONGER WRITE_EPC_WITHIN WRITE_EPC_TO_ITS_END
     WRITE_EPC_OVER_ITS_END WRITE_BEHIND_EPC WRITE_RESERVED WRITE_TID WRITE_USER
     // Lock
-    LOCK_PL LOCK_TOP_BITS LOCK_STATE LOCK_PASSWORD LOCK_NOT_SECURED LOCK_NO_USER
+    LOCK_PL LOCK_TOP_BITS LOCK_NO_TAG LOCK_PASSWORD LOCK_NOT_SECURED LOCK_NO_USER
     LOCK_USER_THERE LOCK_USER_NOT_MASKED LOCK_NO_PERMALOCK LOCK_PERMALOCK_LIFTED
     LOCK_PERMALOCK_REPEATED LOCK_REPEATED_WITH_OTHER_PASSWORD_BIT LOCK_PASSWORD_BIT_DIFFERS
     LOCK_PASSWORD_BIT_EQUAL LOCK_PERMALOCKED_NOT_MASKED LOCK_REFUSED LOCK_GOOD
     // Kill
-    KILL_PL KILL_STATE KILL_STORED_ZERO KILL_DIFFERENT KILL_GOOD
+    KILL_PL KILL_NO_TAG KILL_STORED_ZERO KILL_DIFFERENT KILL_GOOD
 }
 
 #[cfg(feature = "count-branches")]
@@ -67,16 +84,20 @@ pub use counters::read as branch_counts;
 #[cfg(feature = "count-branches")]
 macro_rules! hit {
     ($name:ident) => {
-        counters::add(Branch::$name)
+        $crate::model::counters::add($crate::model::Branch::$name)
     };
 }
 
 #[cfg(not(feature = "count-branches"))]
 macro_rules! hit {
     ($name:ident) => {{
-        let _ = Branch::$name;
+        let _ = $crate::model::Branch::$name;
     }};
 }
+
+mod selection;
+
+use selection::Fault;
 
 /// "Answers have at most 136 bytes."
 const LONGEST_ANSWER: usize = 136;
@@ -84,6 +105,11 @@ const LONGEST_ANSWER: usize = 136;
 const MOST_PARAMETERS: usize = 80;
 /// "any tally count at 4,294,967,295"
 const FULL_COUNT: u64 = 4_294_967_295;
+
+/// "A crate holds up to 16 tags"
+const MOST_TAGS: usize = 16;
+/// The number to go on from where no tag is still to be handed out.
+pub const NONE_TO_HAND_OUT: u64 = MOST_TAGS as u64;
 
 const RESERVED: usize = 0;
 const EPC: usize = 1;
@@ -93,7 +119,14 @@ const USER: usize = 3;
 /// What one bench holds between calls, and the length and the reason that its last call reported.
 #[derive(Clone, Debug, PartialEq, Eq)]
 pub struct Bench {
-    pub image: Vec<u8>,
+    /// "one lent memory"
+    pub memory: Vec<u8>,
+    /// "each with its place": where a tag's image starts in the memory, and its bytes.
+    pub places: Vec<(u64, u64)>,
+    /// The parameters of the Set Select that made it; "starts empty".
+    pub selection: Vec<u8>,
+    /// Of the tags from this number on, those present and matching are still to be handed out.
+    pub next: u64,
     pub output: Vec<u8>,
     pub cursor: u64,
     pub good: u64,
@@ -116,10 +149,25 @@ enum Reason {
 }
 
 impl Bench {
-    /// A bench at the start: this tag, the shortest output that will do, cursor and counts at 0.
+    /// A bench at the start, with this tag alone.
     pub fn new(image: Vec<u8>) -> Bench {
+        Bench::of_tags(&[image])
+    }
+
+    /// A bench at the start: these tags one behind the other in the memory, no selection and nothing
+    /// to hand out, the shortest output that will do, cursor and counts at 0.
+    pub fn of_tags(images: &[Vec<u8>]) -> Bench {
+        let mut from = 0;
+        let place = |image: &Vec<u8>| {
+            let size = image.len() as u64;
+            from += size;
+            (from - size, size)
+        };
         Bench {
-            image,
+            places: images.iter().map(place).collect(),
+            memory: images.concat(),
+            selection: Vec::new(),
+            next: NONE_TO_HAND_OUT,
             output: vec![0; LONGEST_ANSWER],
             cursor: 0,
             good: 0,
@@ -136,27 +184,23 @@ impl Bench {
         self.length = 0;
         // "Answer 3 now carries a reason", and no other answer does
         self.reason = 0;
-        // "Tests in the order 10, 11, 12, 13, then the finding rules"
-        if self.cursor > input.len() as u64 {
-            hit!(CURSOR_PAST_END);
-            return 10;
+        if let Some(refusal) = self.refusal(input.len() as u64) {
+            return refusal;
         }
-        hit!(CURSOR_WITHIN);
-        if !is_good(&self.image) {
-            hit!(IMAGE_BAD);
-            return 11;
-        }
-        hit!(IMAGE_GOOD);
-        if self.output.len() < LONGEST_ANSWER {
-            hit!(OUTPUT_SHORT);
-            return 12;
-        }
-        hit!(OUTPUT_ENOUGH);
-        if self.is_tally_full() {
-            return 13;
-        }
-        hit!(TALLY_FREE);
         let rest = &input[self.cursor as usize..];
+        // "Inventory hands out each matching present tag exactly once, in rising number, one per
+        // call, then takes the next command": so before the finding rules, whatever the input holds
+        if let Some(tag) = self.tag_to_hand_out() {
+            if rest.is_empty() {
+                hit!(HAND_OUT_AT_THE_END);
+            } else {
+                hit!(HAND_OUT_BEFORE_MORE);
+            }
+            // "The cursor moves with the first of them only"
+            let answer = self.hand_out(tag);
+            self.write(&answer);
+            return 0;
+        }
         match find(rest) {
             Found::Nothing => 1,
             Found::Waiting => 2,
@@ -165,12 +209,37 @@ impl Bench {
                 3
             }
             Found::Accepted(pl) => {
-                self.take(rest[2], &rest[5..5 + pl]);
+                let answer = self.execute(rest[2], &rest[5..5 + pl]);
+                self.write(&answer);
                 // "cursor moves over the command"
                 self.cursor += 7 + pl as u64;
                 0
             }
         }
+    }
+
+    /// "Tests in the order 10, 11, 12, 13, then the finding rules"
+    fn refusal(&self, input_length: u64) -> Option<u64> {
+        if self.cursor > input_length {
+            hit!(CURSOR_PAST_END);
+            return Some(10);
+        }
+        hit!(CURSOR_WITHIN);
+        if !self.is_crate_good() {
+            hit!(CRATE_BAD);
+            return Some(11);
+        }
+        hit!(CRATE_GOOD);
+        if self.output.len() < LONGEST_ANSWER {
+            hit!(OUTPUT_SHORT);
+            return Some(12);
+        }
+        hit!(OUTPUT_ENOUGH);
+        if self.is_tally_full() {
+            return Some(13);
+        }
+        hit!(TALLY_FREE);
+        None
     }
 
     /// The seven counts: good answers, error answers, and the bytes dropped for each reason.
@@ -211,9 +280,8 @@ impl Bench {
         self.dropped[reason as usize - 1] += 1;
     }
 
-    /// Carries out an accepted command and writes its answer.
-    fn take(&mut self, code: u8, parameters: &[u8]) {
-        let answer = execute(&mut self.image, code, parameters);
+    /// Writes an answer to the output, and counts it.
+    fn write(&mut self, answer: &Answer) {
         let length = answer.write(&mut self.output);
         self.length = length as u64;
         // "An error answer is one with code FF."
@@ -225,6 +293,212 @@ impl Bench {
             self.good += 1;
         }
     }
+
+    /// "more tags, places that overlap or leave the memory, a bad image, or a selection that is
+    /// neither empty nor one that Set Select takes, make it bad (11)"
+    fn is_crate_good(&self) -> bool {
+        match self.places.len() {
+            0 => hit!(TAGS_0),
+            1 => hit!(TAGS_1),
+            2..MOST_TAGS => hit!(TAGS_SEVERAL),
+            MOST_TAGS => hit!(TAGS_16),
+            _ => {
+                hit!(TAGS_TOO_MANY);
+                return false;
+            }
+        }
+        are_places_good(&self.places, self.memory.len() as u64)
+            && self.are_images_good()
+            && is_selection_good(&self.selection)
+    }
+
+    fn are_images_good(&self) -> bool {
+        for tag in 0..self.places.len() {
+            if !is_good(self.image(tag)) {
+                if tag == 0 {
+                    hit!(FIRST_IMAGE_BAD);
+                } else {
+                    hit!(LATER_IMAGE_BAD);
+                }
+                return false;
+            }
+        }
+        true
+    }
+
+    /// The bytes of the memory that a tag has, in a crate whose places are good.
+    fn range(&self, tag: usize) -> Range<usize> {
+        let (from, size) = self.places[tag];
+        from as usize..(from + size) as usize
+    }
+
+    fn image(&self, tag: usize) -> &[u8] {
+        &self.memory[self.range(tag)]
+    }
+
+    /// The lowest number of a tag from `first` on that is present and matches the selection.
+    fn lowest(&self, first: usize) -> Option<usize> {
+        (first..self.places.len()).find(|tag| {
+            let image = self.image(*tag);
+            if !is_present(image) {
+                hit!(TAG_NOT_PRESENT);
+                return false;
+            }
+            if !selection::matches(&self.selection, image) {
+                hit!(TAG_NOT_MATCHING);
+                return false;
+            }
+            true
+        })
+    }
+
+    /// The tag that a command is for: "the lowest-numbered present tag that matches". It "holds for
+    /// inventory too".
+    fn aim(&self) -> Option<usize> {
+        let tag = self.lowest(0);
+        match tag {
+            Some(0) => hit!(TAG_FIRST),
+            Some(_) => hit!(TAG_LATER),
+            None => hit!(TAG_NONE),
+        }
+        tag
+    }
+
+    /// That tag's image, for a command that may change it.
+    fn target(&mut self) -> Option<&mut [u8]> {
+        let range = self.range(self.aim()?);
+        Some(&mut self.memory[range])
+    }
+
+    /// "one no longer present and matching at its turn is passed over"
+    fn tag_to_hand_out(&self) -> Option<usize> {
+        if self.next >= self.places.len() as u64 {
+            hit!(HAND_OUT_NONE);
+            return None;
+        }
+        let tag = self.lowest(self.next as usize);
+        match tag {
+            Some(tag) if tag as u64 == self.next => hit!(HAND_OUT_NEXT),
+            Some(_) => hit!(HAND_OUT_PASSING_OVER),
+            None => hit!(HAND_OUT_ALL_PASSED_OVER),
+        }
+        tag
+    }
+
+    /// "type 02, code 22: RSSI, PC, EPC, CRC-16 of PC and EPC"; "inventory sends the stored word".
+    /// The tags behind this one are then still to come.
+    fn hand_out(&mut self, tag: usize) -> Answer {
+        self.next = tag as u64 + 1;
+        let image = self.image(tag);
+        Answer::new(2, 0x22)
+            .byte(image[23])
+            .bytes(pc_and_epc(image))
+            .bytes(&crc_word(image))
+    }
+
+    fn execute(&mut self, code: u8, parameters: &[u8]) -> Answer {
+        // A command is taken when nothing is left to hand out, and a tag that comes to match later
+        // was not meant by the inventory before it.
+        self.next = NONE_TO_HAND_OUT;
+        match code {
+            0x22 => self.inventory(parameters),
+            0x0C => self.set_select(parameters),
+            0x39 => read(self.aim().map(|tag| self.image(tag)), parameters),
+            0x49 => write(self.target(), parameters),
+            0x82 => lock(self.target(), parameters),
+            0x65 => kill(self.target(), parameters),
+            _ => {
+                // "Any code not listed: plain 17."
+                hit!(CODE_UNKNOWN);
+                plain_error(0x17)
+            }
+        }
+    }
+
+    fn inventory(&mut self, parameters: &[u8]) -> Answer {
+        // "PL not 0: plain 17."
+        if !parameters.is_empty() {
+            hit!(INVENTORY_PL);
+            return plain_error(0x17);
+        }
+        // "with none it answers plain 15"
+        let Some(tag) = self.aim() else {
+            hit!(INVENTORY_NO_TAG);
+            return plain_error(0x15);
+        };
+        hit!(INVENTORY_GOOD);
+        self.hand_out(tag)
+    }
+
+    /// "anything else, or the Reserved bank, is plain 17. It answers 00"
+    fn set_select(&mut self, parameters: &[u8]) -> Answer {
+        let Some(fault) = selection::fault(parameters) else {
+            hit!(SELECT_TAKEN);
+            self.selection = parameters.to_vec();
+            return Answer::new(1, 0x0C).byte(0);
+        };
+        match fault {
+            Fault::TooShort => hit!(SELECT_TOO_SHORT),
+            Fault::Target => hit!(SELECT_TARGET),
+            Fault::Action => hit!(SELECT_ACTION),
+            Fault::Reserved => hit!(SELECT_RESERVED),
+            Fault::Truncate => hit!(SELECT_TRUNCATE),
+            Fault::MaskTooShort => hit!(SELECT_MASK_SHORT),
+            Fault::MaskTooLong => hit!(SELECT_MASK_LONG),
+        }
+        plain_error(0x17)
+    }
+}
+
+/// Whether no place leaves the memory and no two overlap, whatever their order in it.
+fn are_places_good(places: &[(u64, u64)], memory: u64) -> bool {
+    for (tag, (from, size)) in places.iter().enumerate() {
+        let Some(end) = from.checked_add(*size) else {
+            hit!(PLACE_WRAPS);
+            return false;
+        };
+        if end > memory {
+            hit!(PLACE_LEAVES);
+            return false;
+        }
+        if end == memory {
+            hit!(PLACE_TO_THE_END);
+        }
+        // those before it are within the memory, so their ends do not wrap
+        let earlier = &places[..tag];
+        let overlapping = |(f, s): &(u64, u64)| *f < end && *from < f + s;
+        if let Some(other) = earlier.iter().position(overlapping) {
+            if other + 1 == tag {
+                hit!(PLACES_OVERLAP_NEXT);
+            } else {
+                hit!(PLACES_OVERLAP_APART);
+            }
+            return false;
+        }
+    }
+    true
+}
+
+/// "a selection that is neither empty nor one that Set Select takes"
+fn is_selection_good(selection: &[u8]) -> bool {
+    if selection.is_empty() {
+        hit!(SELECTION_EMPTY);
+        return true;
+    }
+    let Some(fault) = selection::fault(selection) else {
+        hit!(SELECTION_GOOD);
+        return true;
+    };
+    match fault {
+        Fault::TooShort => hit!(SELECTION_TOO_SHORT),
+        Fault::Target => hit!(SELECTION_TARGET),
+        Fault::Action => hit!(SELECTION_ACTION),
+        Fault::Reserved => hit!(SELECTION_RESERVED),
+        Fault::Truncate => hit!(SELECTION_TRUNCATE),
+        Fault::MaskTooShort => hit!(SELECTION_MASK_SHORT),
+        Fault::MaskTooLong => hit!(SELECTION_MASK_LONG),
+    }
+    false
 }
 
 /// "all two-byte numbers high byte first"
@@ -535,40 +809,6 @@ fn done(code: u8, image: &[u8]) -> Answer {
     Answer::new(1, code).tail(image).byte(0)
 }
 
-fn execute(image: &mut [u8], code: u8, parameters: &[u8]) -> Answer {
-    match code {
-        0x22 => inventory(image, parameters),
-        0x39 => read(image, parameters),
-        0x49 => write(image, parameters),
-        0x82 => lock(image, parameters),
-        0x65 => kill(image, parameters),
-        _ => {
-            // "Any code not listed: plain 17."
-            hit!(CODE_UNKNOWN);
-            plain_error(0x17)
-        }
-    }
-}
-
-fn inventory(image: &[u8], parameters: &[u8]) -> Answer {
-    // "PL not 0: plain 17."
-    if !parameters.is_empty() {
-        hit!(INVENTORY_PL);
-        return plain_error(0x17);
-    }
-    // "State not 0: plain 15."
-    if !is_present(image) {
-        hit!(INVENTORY_STATE);
-        return plain_error(0x15);
-    }
-    // "Else type 02, code 22: RSSI, PC, EPC, CRC-16 of PC and EPC"; "inventory sends the stored word"
-    hit!(INVENTORY_GOOD);
-    Answer::new(2, 0x22)
-        .byte(image[23])
-        .bytes(pc_and_epc(image))
-        .bytes(&crc_word(image))
-}
-
 /// "A Gen2 tag holds its CRC-16 in EPC word 0"
 fn crc_word(image: &[u8]) -> [u8; 2] {
     let start = offset_of(image, EPC);
@@ -682,8 +922,8 @@ fn allows(image: &[u8], shift: usize, secured: bool) -> bool {
     }
 }
 
-fn touches_kill(pointer: usize) -> bool {
-    if pointer < 2 {
+fn touches_kill(named: &Named) -> bool {
+    if named.pointer < 2 {
         hit!(REGION_KILL_TOUCHED);
         return true;
     }
@@ -691,8 +931,8 @@ fn touches_kill(pointer: usize) -> bool {
     false
 }
 
-fn touches_access(pointer: usize, count: usize) -> bool {
-    if pointer + count > 2 {
+fn touches_access(named: &Named) -> bool {
+    if named.end() > 2 {
         hit!(REGION_ACCESS_TOUCHED);
         return true;
     }
@@ -700,119 +940,145 @@ fn touches_access(pointer: usize, count: usize) -> bool {
     false
 }
 
-/// "password (4), bank (1), pointer (2), count (2). PL not 9, bank above 3, count not 1 to 32:
-/// plain 17. State not 0: plain 09. Wrong password: tag error 16. Pointer + count above the
-/// bank's words: A3. A touched password region not readable: A4. Else the tail, then the words."
-fn read(image: &[u8], parameters: &[u8]) -> Answer {
+/// The words that a Read or a Write names.
+struct Named {
+    bank: usize,
+    pointer: usize,
+    count: usize,
+}
+
+impl Named {
+    /// "password (4), bank (1), pointer (2), count (2)"
+    fn of(parameters: &[u8]) -> Named {
+        Named {
+            bank: usize::from(parameters[4]),
+            pointer: double(parameters, 5),
+            count: double(parameters, 7),
+        }
+    }
+
+    fn end(&self) -> usize {
+        self.pointer + self.count
+    }
+}
+
+/// "PL not 9, bank above 3, count not 1 to 32: plain 17. State not 0: plain 09."
+fn read(target: Option<&[u8]>, parameters: &[u8]) -> Answer {
     if parameters.len() != 9 {
         hit!(READ_PL);
         return plain_error(0x17);
     }
-    let bank = usize::from(parameters[4]);
-    let pointer = double(parameters, 5);
-    let count = double(parameters, 7);
-    if bank > 3 {
+    let named = Named::of(parameters);
+    if named.bank > 3 {
         hit!(READ_BANK);
         return plain_error(0x17);
     }
-    if count < 1 {
+    if named.count < 1 {
         hit!(READ_COUNT_0);
         return plain_error(0x17);
     }
-    if count > 32 {
+    if named.count > 32 {
         hit!(READ_COUNT_33);
         return plain_error(0x17);
     }
-    if !is_present(image) {
-        hit!(READ_STATE);
+    // "or answer as with no tag"
+    let Some(image) = target else {
+        hit!(READ_NO_TAG);
         return plain_error(0x09);
-    }
-    let standing = standing(image, password_at(parameters, 0));
+    };
+    read_words(image, password_at(parameters, 0), &named)
+}
+
+/// "Wrong password: tag error 16. Pointer + count above the bank's words: A3. A touched password
+/// region not readable: A4. Else the tail, then the words."
+fn read_words(image: &[u8], password: u32, named: &Named) -> Answer {
+    let standing = standing(image, password);
     if standing == Standing::Wrong {
         hit!(READ_PASSWORD);
         return tag_error(0x16, image);
     }
-    if pointer + count > words_of(image, bank) {
+    if named.end() > words_of(image, named.bank) {
         hit!(READ_RANGE);
         return tag_error(0xA3, image);
     }
     let secured = standing == Standing::Secured;
     // "EPC, TID and User can always be read."
-    if bank == RESERVED {
-        if touches_kill(pointer) && !allows(image, KILL_PAIR, secured) {
+    if named.bank == RESERVED {
+        if touches_kill(named) && !allows(image, KILL_PAIR, secured) {
             hit!(READ_KILL_LOCKED);
             return tag_error(0xA4, image);
         }
-        if touches_access(pointer, count) && !allows(image, ACCESS_PAIR, secured) {
+        if touches_access(named) && !allows(image, ACCESS_PAIR, secured) {
             hit!(READ_ACCESS_LOCKED);
             return tag_error(0xA4, image);
         }
     }
-    match bank {
+    match named.bank {
         RESERVED => hit!(READ_RESERVED),
         EPC => hit!(READ_EPC),
         TID => hit!(READ_TID),
         _ => hit!(READ_USER),
     }
-    let start = offset_of(image, bank) + 2 * pointer;
+    let start = offset_of(image, named.bank) + 2 * named.pointer;
     Answer::new(1, 0x39)
         .tail(image)
-        .bytes(&image[start..start + 2 * count])
+        .bytes(&image[start..start + 2 * named.count])
 }
 
 /// "as 0x39 and then 2 x count data bytes. PL below 9 or not 9 + 2 x count, bank, count: plain
-/// 17. State: plain 10. Password: 16. Range: B3. A touched region not writable: B4. Bank 1,
-/// word 1 written, new L + 2 above the EPC words: B3. Else all words are written; tail, 00."
-fn write(image: &mut [u8], parameters: &[u8]) -> Answer {
+/// 17. State: plain 10."
+fn write(target: Option<&mut [u8]>, parameters: &[u8]) -> Answer {
     if parameters.len() < 9 {
         hit!(WRITE_PL_BELOW_9);
         return plain_error(0x17);
     }
-    let bank = usize::from(parameters[4]);
-    let pointer = double(parameters, 5);
-    let count = double(parameters, 7);
-    if parameters.len() != 9 + 2 * count {
+    let named = Named::of(parameters);
+    if parameters.len() != 9 + 2 * named.count {
         hit!(WRITE_PL_NOT_COUNT);
         return plain_error(0x17);
     }
-    if bank > 3 {
+    if named.bank > 3 {
         hit!(WRITE_BANK);
         return plain_error(0x17);
     }
-    if count < 1 {
+    if named.count < 1 {
         hit!(WRITE_COUNT_0);
         return plain_error(0x17);
     }
-    if count > 32 {
+    if named.count > 32 {
         hit!(WRITE_COUNT_33);
         return plain_error(0x17);
     }
-    if !is_present(image) {
-        hit!(WRITE_STATE);
+    // "or answer as with no tag"
+    let Some(image) = target else {
+        hit!(WRITE_NO_TAG);
         return plain_error(0x10);
-    }
-    let standing = standing(image, password_at(parameters, 0));
+    };
+    write_words(image, password_at(parameters, 0), &named, &parameters[9..])
+}
+
+/// "Password: 16. Range: B3. A touched region not writable: B4. Bank 1, word 1 written, new L + 2
+/// above the EPC words: B3. Else all words are written; tail, 00."
+fn write_words(image: &mut [u8], password: u32, named: &Named, data: &[u8]) -> Answer {
+    let standing = standing(image, password);
     if standing == Standing::Wrong {
         hit!(WRITE_PASSWORD);
         return tag_error(0x16, image);
     }
-    if pointer + count > words_of(image, bank) {
+    if named.end() > words_of(image, named.bank) {
         hit!(WRITE_RANGE);
         return tag_error(0xB3, image);
     }
-    if !may_write(image, bank, pointer, count, standing == Standing::Secured) {
+    if !may_write(image, named, standing == Standing::Secured) {
         return tag_error(0xB4, image);
     }
-    let data = &parameters[9..];
-    if bank == EPC {
-        return write_epc(image, pointer, data);
-    }
-    match bank {
+    match named.bank {
+        EPC => return write_epc(image, named.pointer, data),
         RESERVED => hit!(WRITE_RESERVED),
         TID => hit!(WRITE_TID),
         _ => hit!(WRITE_USER),
     }
-    store(image, bank, pointer, data)
+    store(image, named.bank, named.pointer, data)
 }
 
 /// "Else all words are written; tail, 00."
@@ -875,14 +1141,14 @@ fn count_place(end: usize, from: usize, to: usize) {
     }
 }
 
-fn may_write(image: &[u8], bank: usize, pointer: usize, count: usize, secured: bool) -> bool {
-    match bank {
+fn may_write(image: &[u8], named: &Named, secured: bool) -> bool {
+    match named.bank {
         RESERVED => {
-            if touches_kill(pointer) && !allows(image, KILL_PAIR, secured) {
+            if touches_kill(named) && !allows(image, KILL_PAIR, secured) {
                 hit!(WRITE_KILL_LOCKED);
                 return false;
             }
-            if touches_access(pointer, count) && !allows(image, ACCESS_PAIR, secured) {
+            if touches_access(named) && !allows(image, ACCESS_PAIR, secured) {
                 hit!(WRITE_ACCESS_LOCKED);
                 return false;
             }
@@ -911,7 +1177,7 @@ fn may_write(image: &[u8], bank: usize, pointer: usize, count: usize, secured: b
 
 /// "password (4), LD (3). PL not 7 or the top four bits of LD not 0: plain 17. State: plain 13.
 /// Password: 16. Not secured: plain 13 (house)."
-fn lock(image: &mut [u8], parameters: &[u8]) -> Answer {
+fn lock(target: Option<&mut [u8]>, parameters: &[u8]) -> Answer {
     if parameters.len() != 7 {
         hit!(LOCK_PL);
         return plain_error(0x17);
@@ -920,10 +1186,11 @@ fn lock(image: &mut [u8], parameters: &[u8]) -> Answer {
         hit!(LOCK_TOP_BITS);
         return plain_error(0x17);
     }
-    if !is_present(image) {
-        hit!(LOCK_STATE);
+    // "or answer as with no tag"
+    let Some(image) = target else {
+        hit!(LOCK_NO_TAG);
         return plain_error(0x13);
-    }
+    };
     match standing(image, password_at(parameters, 0)) {
         Standing::Wrong => {
             hit!(LOCK_PASSWORD);
@@ -937,8 +1204,11 @@ fn lock(image: &mut [u8], parameters: &[u8]) -> Answer {
     }
     // "LD bits 19 to 10 are the mask, 9 to 0 the action."
     let ld = usize::from(parameters[4]) * 65536 + double(parameters, 5);
-    let mask = ld >> 10;
-    let action = ld & 0x3FF;
+    lock_masked(image, ld >> 10, ld & 0x3FF)
+}
+
+/// A Lock that the password lets through.
+fn lock_masked(image: &mut [u8], mask: usize, action: usize) -> Answer {
     // "Mask touches User and User has 0 words: C3."
     if mask >> USER_PAIR & 3 != 0 {
         if words_of(image, USER) == 0 {
@@ -1025,15 +1295,16 @@ fn new_pair(Field { old, mask, action }: Field) -> Option<usize> {
 
 /// "kill password (4). PL not 4: plain 17. State: plain 12. Stored one zero: D0. Different:
 /// plain 12. Else state becomes 1; tail, 00."
-fn kill(image: &mut [u8], parameters: &[u8]) -> Answer {
+fn kill(target: Option<&mut [u8]>, parameters: &[u8]) -> Answer {
     if parameters.len() != 4 {
         hit!(KILL_PL);
         return plain_error(0x17);
     }
-    if !is_present(image) {
-        hit!(KILL_STATE);
+    // "or answer as with no tag"
+    let Some(image) = target else {
+        hit!(KILL_NO_TAG);
         return plain_error(0x12);
-    }
+    };
     let stored = kill_password(image);
     if stored == 0 {
         hit!(KILL_STORED_ZERO);

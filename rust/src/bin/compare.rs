@@ -26,7 +26,7 @@ struct Proved {
 impl Proved {
     fn of(bench: &Bench) -> Proved {
         Proved {
-            image: bench.image.clone(),
+            image: bench.memory.clone(),
             output: bench.output.clone(),
             state: state_of(bench).to_vec(),
         }
@@ -37,7 +37,7 @@ impl Proved {
     }
 
     fn is(&self, bench: &Bench) -> bool {
-        self.image == bench.image && self.output == bench.output && self.state == state_of(bench)
+        self.image == bench.memory && self.output == bench.output && self.state == state_of(bench)
     }
 }
 
@@ -136,7 +136,7 @@ fn trial(seed: u64, number: u64, seen: &mut Seen) -> u64 {
     let mut proved = Proved::of(&bench);
     let mut calls = 0;
     for _ in 0..random.between(1, 12) {
-        let made = if bench.image.len() >= 24 && random.percent(20) {
+        let made = if bench.memory.len() >= 24 && random.percent(20) {
             row_of_locks(&mut random, &mut proved, &mut bench, seen)
         } else {
             one_input(&mut random, &mut proved, &mut bench, seen)
@@ -147,8 +147,8 @@ fn trial(seed: u64, number: u64, seen: &mut Seen) -> u64 {
         };
         calls += made;
         // a killed tag is brought back now and then, so that later calls see more than its state
-        if bench.image.len() >= 24 && bench.image[22] == 1 && random.percent(60) {
-            bench.image[22] = 0;
+        if bench.memory.len() >= 24 && bench.memory[22] == 1 && random.percent(60) {
+            bench.memory[22] = 0;
             proved.image[22] = 0;
         }
     }
@@ -162,7 +162,7 @@ fn one_input(
     bench: &mut Bench,
     seen: &mut Seen,
 ) -> Option<u64> {
-    let input = generator::input(random, &bench.image);
+    let input = generator::input(random, &bench.memory);
     bench.cursor = start_cursor(random, &input);
     proved.state[CURSOR] = bench.cursor;
     let calls = walk(proved, bench, &input, seen)?;
@@ -182,8 +182,8 @@ fn row_of_locks(
 ) -> Option<u64> {
     let mut calls = 0;
     for _ in 0..12 {
-        let input = generator::lock_anew(random, &mut bench.image);
-        proved.image.clone_from(&bench.image);
+        let input = generator::lock_anew(random, &mut bench.memory);
+        proved.image.clone_from(&bench.memory);
         bench.cursor = 0;
         proved.state[CURSOR] = 0;
         calls += walk(proved, bench, &input, seen)?;

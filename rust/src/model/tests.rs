@@ -4,6 +4,8 @@
 use super::{crc16, is_good, Bench, FULL_COUNT};
 use crate::generator::{frame, good_image, input, sample_image, set_double, Random};
 
+mod crates;
+
 fn fresh() -> Bench {
     Bench::new(sample_image())
 }
@@ -232,12 +234,12 @@ fn each_count_has_the_limit() {
 fn refusals_before_reasons() {
     let mut bench = counting([0, 0, 0, FULL_COUNT, 0, 0, 0]);
     bench.cursor = 2;
-    bench.image[1] = 2;
+    bench.memory[1] = 2;
     bench.output.pop();
     // what is wrong is put right one by one, in the order of the tests
     let mends: [fn(&mut Bench); 4] = [
         |b| b.cursor = 0,
-        |b| b.image[1] = 1,
+        |b| b.memory[1] = 1,
         |b| b.output.push(0),
         |b| b.dropped[1] = 0,
     ];
@@ -300,13 +302,13 @@ fn lock_frame(ld: usize) -> Vec<u8> {
 /// expected are stored; the frames are the published ones, and nothing else changes.
 fn locks(old: usize, ld: usize, expected: Option<usize>) {
     let mut bench = fresh();
-    set_double(&mut bench.image, 20, old);
+    set_double(&mut bench.memory, 20, old);
     let mut after = bench.clone();
     let input = lock_frame(ld);
     assert_eq!(bench.call(&input), 0);
     let answer = match expected {
         Some(bits) => {
-            set_double(&mut after.image, 20, bits);
+            set_double(&mut after.memory, 20, bits);
             after.good = 1;
             tail_frame(0x82, None, 0xE2)
         }
@@ -396,12 +398,12 @@ fn lock_without_user_words() {
     // User alone; User permalocked again; beside a kill pair that refuses
     for (old, ld) in [(0x000, 0x000C03), (0x003, 0x000C03), (0x300, 0x040C03)] {
         let mut bench = fresh();
-        set_double(&mut bench.image, 16, 0);
-        set_double(&mut bench.image, 20, old);
-        let image = bench.image.clone();
+        set_double(&mut bench.memory, 16, 0);
+        set_double(&mut bench.memory, 20, old);
+        let image = bench.memory.clone();
         assert_eq!(bench.call(&lock_frame(ld)), 0);
         assert_eq!(bench.output[..23], tail_frame(0xFF, Some(0xC3), 0x22));
-        assert_eq!(bench.image, image);
+        assert_eq!(bench.memory, image);
     }
 }
 
@@ -427,17 +429,17 @@ fn shortened() -> Bench {
     let words = [
         0x9ADC, 0x2C00, 0x3075, 0x1FEB, 0x705C, 0x5904, 0xE3D5, 0x0D70,
     ];
-    bench.image[EPC_BANK].copy_from_slice(&epc_bank(words));
+    bench.memory[EPC_BANK].copy_from_slice(&epc_bank(words));
     bench
 }
 
 /// A good Write to the EPC bank: only that bank changes, to these words.
 fn writes_epc(mut bench: Bench, pointer: u16, words: &[u16], bank: [u16; 8]) {
-    let mut image = bench.image.clone();
+    let mut image = bench.memory.clone();
     image[EPC_BANK].copy_from_slice(&epc_bank(bank));
     assert_eq!(bench.call(&epc_write(pointer, words)), 0);
     assert_eq!(bench.counts(), [1, 0, 0, 0, 0, 0, 0]);
-    assert_eq!(bench.image, image, "{words:04X?} from word {pointer} on");
+    assert_eq!(bench.memory, image, "{words:04X?} from word {pointer} on");
 }
 
 /// The whole sample image as the paper has it from this change on, and its frame that stays.
@@ -447,7 +449,7 @@ fn sample_crc_word() {
     let words = [
         0x3A76, 0x3400, 0x3075, 0x1FEB, 0x705C, 0x5904, 0xE3D5, 0x0D70,
     ];
-    assert_eq!(bench.image[EPC_BANK], epc_bank(words));
+    assert_eq!(bench.memory[EPC_BANK], epc_bank(words));
     assert_eq!(bench.call(&[0xBB, 0x00, 0x22, 0x00, 0x00, 0x22, 0x7E]), 0);
     let frame = [
         0xBB, 0x02, 0x22, 0x00, 0x11, 0xC9, 0x34, 0x00, 0x30, 0x75, 0x1F, 0xEB, 0x70, 0x5C, 0x59,
@@ -465,7 +467,7 @@ fn another_crc_word_is_bad() {
             continue;
         }
         let mut bench = fresh();
-        bench.image[32 + bit / 8] ^= 0x80 >> (bit % 8);
+        bench.memory[32 + bit / 8] ^= 0x80 >> (bit % 8);
         let before = bench.clone();
         assert_eq!(bench.call(&frame(0x22, &[])), 11, "bit {bit}");
         assert_eq!(bench, before);
@@ -473,12 +475,12 @@ fn another_crc_word_is_bad() {
     // the word of the image before this change, not complemented, and low byte first
     for word in [0x0000, 0xC589, 0x763A] {
         let mut bench = fresh();
-        set_double(&mut bench.image, 32, word);
+        set_double(&mut bench.memory, 32, word);
         assert_eq!(bench.call(&[0x41]), 11);
     }
     // a word behind the EPC does not count
     let mut bench = shortened();
-    bench.image[47] ^= 1;
+    bench.memory[47] ^= 1;
     assert_eq!(bench.call(&[]), 1);
 }
 
@@ -538,10 +540,10 @@ fn write_then_inventory() {
 
 /// A Write to the EPC bank that is refused with this byte: the image stays.
 fn refuses_epc(mut bench: Bench, input: &[u8], error: u8, check: u8) {
-    let image = bench.image.clone();
+    let image = bench.memory.clone();
     assert_eq!(bench.call(input), 0);
     assert_eq!(bench.output[..23], tail_frame(0xFF, Some(error), check));
-    assert_eq!(bench.image, image);
+    assert_eq!(bench.memory, image);
     assert_eq!(bench.counts(), [0, 1, 0, 0, 0, 0, 0]);
 }
 
@@ -565,7 +567,7 @@ fn write_of_the_crc_word() {
     refuses_epc(fresh(), &epc_write(1, &[0x3C00]), 0xB3, 0x12);
     // a locked bank has the same byte, and is left as it is
     let mut locked = fresh();
-    set_double(&mut locked.image, 20, 0x030);
+    set_double(&mut locked.memory, 20, 0x030);
     refuses_epc(locked.clone(), &epc_write(0, &[0x3A76]), 0xB4, 0x13);
     refuses_epc(locked, &epc_write(1, &[0x3400]), 0xB4, 0x13);
 }
@@ -577,11 +579,11 @@ fn write_of_word_0_elsewhere() {
         let mut parameters = vec![0x00, 0x00, 0xFF, 0xFF, bank, 0x00, 0x00];
         parameters.extend([0x00, 0x01, 0xAB, 0xCD]);
         let mut bench = fresh();
-        let mut image = bench.image.clone();
+        let mut image = bench.memory.clone();
         set_double(&mut image, at, 0xABCD);
         assert_eq!(bench.call(&frame(0x49, &parameters)), 0);
         assert_eq!(bench.output[..23], tail_frame(0x49, None, 0xA9));
-        assert_eq!(bench.image, image);
+        assert_eq!(bench.memory, image);
     }
 }
 
@@ -590,7 +592,7 @@ fn write_of_word_0_elsewhere() {
 #[test]
 fn crc_by_bits() {
     assert_eq!(crc16(b"123456789"), 0xD64E);
-    assert_eq!(crc16(&fresh().image[34..48]), 0x3A76);
+    assert_eq!(crc16(&fresh().memory[34..48]), 0x3A76);
     for first in 0..=255u8 {
         let bytes = [first, 0x5A, first];
         let mut crc = 0xFFFFu16;
@@ -611,11 +613,11 @@ fn good_stays_good() {
     for _ in 0..300 {
         let mut bench = Bench::new(good_image(&mut random));
         for _ in 0..10 {
-            assert!(is_good(&bench.image));
-            let input = input(&mut random, &bench.image);
+            assert!(is_good(&bench.memory));
+            let input = input(&mut random, &bench.memory);
             bench.cursor = 0;
             while [0, 3].contains(&bench.call(&input)) {
-                assert!(is_good(&bench.image), "{input:02X?}");
+                assert!(is_good(&bench.memory), "{input:02X?}");
                 answered += u64::from(bench.length > 0);
             }
         }
