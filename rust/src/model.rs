@@ -26,8 +26,8 @@ branches! {
     GOOD_FULL ERROR_FULL NO_HEADER_FULL WRONG_TYPE_FULL TOO_LONG_FULL WRONG_CHECK_FULL
     WRONG_END_FULL TALLY_FREE
     // the rules of a good crate
-    TAGS_TOO_MANY TAGS_16 TAGS_SEVERAL TAGS_1 TAGS_0 PLACE_WRAPS PLACE_LEAVES PLACE_TO_THE_END
-    PLACES_OVERLAP_NEXT PLACES_OVERLAP_APART FIRST_IMAGE_BAD LATER_IMAGE_BAD
+    TAGS_TOO_MANY TAGS_16 TAGS_SEVERAL TAGS_1 TAGS_0 PLACE_ABOVE_32_BITS PLACE_LEAVES
+    PLACE_TO_THE_END PLACES_OVERLAP_NEXT PLACES_OVERLAP_APART FIRST_IMAGE_BAD LATER_IMAGE_BAD
     SELECTION_EMPTY SELECTION_GOOD SELECTION_TOO_SHORT SELECTION_TARGET SELECTION_ACTION
     SELECTION_RESERVED SELECTION_TRUNCATE SELECTION_MASK_SHORT SELECTION_MASK_LONG
     // the rules of a good image
@@ -364,6 +364,11 @@ impl Bench {
         tag
     }
 
+    /// The tag that a command would be for, asked from outside; none in a bad crate.
+    pub fn aimed(&self) -> Option<usize> {
+        self.is_crate_good().then(|| self.aim()).flatten()
+    }
+
     /// That tag's image, for a command that may change it.
     fn target(&mut self) -> Option<&mut [u8]> {
         let range = self.range(self.aim()?);
@@ -453,12 +458,14 @@ impl Bench {
 /// Whether no place leaves the memory and no two overlap, whatever their order in it.
 fn are_places_good(places: &[(u64, u64)], memory: u64) -> bool {
     for (tag, (from, size)) in places.iter().enumerate() {
-        let Some(end) = from.checked_add(*size) else {
-            hit!(PLACE_WRAPS);
-            return false;
-        };
+        // no memory is so long that a sum at the top would lie in it
+        let end = from.saturating_add(*size);
         if end > memory {
-            hit!(PLACE_LEAVES);
+            if end > u64::from(u32::MAX) {
+                hit!(PLACE_ABOVE_32_BITS);
+            } else {
+                hit!(PLACE_LEAVES);
+            }
             return false;
         }
         if end == memory {

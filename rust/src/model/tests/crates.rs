@@ -1,7 +1,9 @@
 //! Several tags: the crate's rules, Set Select, which tag a command is for, and the hand-out.
 
-use super::{frame, fresh, hex, lock_frame, Bench, FULL_COUNT};
-use crate::generator::crates::{crate_input, good_crate, image_at, select_parameters};
+use super::{frame, fresh, hex, lock_frame, report, Bench, FULL_COUNT};
+use crate::generator::crates::{good_crate, image_at};
+use crate::generator::selections::select_parameters;
+use crate::generator::starts::crate_input;
 use crate::generator::{sample_image, set_crc_word, set_double, Random};
 use crate::model::NONE_TO_HAND_OUT;
 
@@ -752,6 +754,28 @@ fn start_in_the_middle() {
         }
         assert_eq!(bench.call(&[]), 1, "{next}");
     }
+}
+
+// ---- the example for C ----
+
+/// The input of the example, read out of its source.
+fn example_input() -> Vec<u8> {
+    let source = include_str!("../../../../examples/sample.c");
+    let (_, behind) = source.split_once("input[] = {").expect("it has an input");
+    let (input, _) = behind.split_once("};").expect("which ends");
+    let bytes = input.split([' ', ',', '\n']);
+    let bytes = bytes.filter_map(|word| word.strip_prefix("0x"));
+    bytes
+        .map(|digits| u8::from_str_radix(digits, 16).expect("two digits"))
+        .collect()
+}
+
+/// What the example prints of the library, the model gives too.
+#[test]
+fn example_for_c() {
+    let bench = Bench::of_tags(&[tag_b(), tag_c(), tag_a()]);
+    let expected = include_str!("../../../../examples/sample.out");
+    assert_eq!(report(bench, &example_input()), expected);
 }
 
 // ---- any crate ----
