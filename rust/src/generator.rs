@@ -1,9 +1,13 @@
 //! Images, commands and inputs for the tests, drawn from a seed. Values are drawn near the bounds
 //! of the rules, on both sides, since that is where two readings of a rule part.
 
+pub mod bad_crates;
 pub mod crates;
+pub mod selections;
+pub mod starts;
 
 use crate::model::crc16;
+use crate::packed::LIMIT;
 
 /// A xorshift generator: the same seed gives the same run.
 pub struct Random(u64);
@@ -93,6 +97,14 @@ pub fn sample_image() -> Vec<u8> {
     image.extend([0; 6]);
     image.extend([0x12, 0x34, 0x56, 0x78]);
     image.resize(86, 0);
+    image
+}
+
+/// The sample tag with another last EPC word.
+pub fn sample_tag(last: usize) -> Vec<u8> {
+    let mut image = sample_image();
+    set_double(&mut image, 46, last);
+    set_crc_word(&mut image);
     image
 }
 
@@ -579,9 +591,6 @@ fn behind_a_start(random: &mut Random, bytes: &[u8]) -> Vec<u8> {
     all.extend(bytes);
     all
 }
-
-/// The largest number that a count may have; a call on a tally with a count there is refused.
-pub const LIMIT: u64 = 4_294_967_295;
 
 /// Seven counts, now and then one of them, or all, near the limit or beyond it.
 pub fn counts(random: &mut Random) -> [u64; 7] {
