@@ -1,7 +1,8 @@
 //! What Set Select takes, and which tags its mask matches. A selection is kept as the parameters of
 //! the Set Select that made it; before the first one it is empty.
 
-use super::{epc_length, offset_of, words_of, EPC, TID};
+use super::image::{epc_length, offset_of, words_of};
+use super::{EPC, TID};
 
 /// "SelParam", "bit pointer, mask length in bits, truncate 0", and then "the mask in whole bytes"
 const BEFORE_MASK: usize = 7;

@@ -1,7 +1,8 @@
 //! The model by itself: sample cases of the scope document, every finding rule with its reason, the
 //! limit of each count, every Lock of one region, and the CRC word.
 
-use super::{crc16, is_good, Bench, FULL_COUNT};
+use super::image::is_good;
+use super::{crc16, Bench, FULL_COUNT};
 use crate::generator::{frame, good_image, input, sample_image, set_double, Random};
 
 mod crates;
