@@ -37,13 +37,16 @@ pub fn poke_crate(random: &mut Random, tags: &mut Tags) {
     }
 }
 
-/// Seventeen good tags, or just sixteen.
+/// Seventeen good tags, or just sixteen. What stands behind the sixteenth place does not matter.
 fn too_many(random: &mut Random, tags: &mut Tags) {
     let number = random.pick(&[16, 17, 17, 17, 18]);
     while tags.places.len() < number {
         let image = good_image(random);
         tags.places.push((0, 0));
         tags.replace(tags.places.len() - 1, &image);
+    }
+    if random.percent(25) {
+        tags.places[16..].fill((u64::MAX, 1 << 32));
     }
 }
 

@@ -1,9 +1,7 @@
 //! Good crates of tags in one memory.
 
-use super::{
-    double, good_image, lock_bits, offset_place, set_crc_word, set_double, set_passwords,
-    words_place, Random,
-};
+use super::images::{lock_bits, set_passwords};
+use super::{double, good_image, offset_place, set_crc_word, set_double, words_place, Random};
 
 /// The memory, and for each tag where its image starts there and its bytes.
 #[derive(Clone, Debug, PartialEq, Eq)]

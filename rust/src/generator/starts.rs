@@ -2,8 +2,9 @@
 
 use super::bad_crates::poke_crate;
 use super::crates::{good_crate, image_at, placed, Tags};
+use super::inputs::input_of;
 use super::selections::select_parameters;
-use super::{command, counts, good_image, image_of_odd_words, input, input_of, poke_image, Random};
+use super::{command, counts, good_image, image_of_odd_words, input, poke_image, Random};
 use crate::model::Bench;
 use crate::packed::NONE_TO_HAND_OUT;
 
