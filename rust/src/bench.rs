@@ -2,8 +2,8 @@
 
 use crate::answer::{Answer, Reason};
 use crate::packed::{
-    Packed, COUNTS, CURSOR, DROPPED, LENGTH, MOST_TAGS, NEXT, NONE_TO_HAND_OUT, SELECTED,
-    SELECTION_LENGTH, STATE_LENGTH,
+    Packed, COUNTS, CURSOR, DROPPED, LENGTH, NEXT, NONE_TO_HAND_OUT, SELECTED, SELECTION_LENGTH,
+    STATE_LENGTH,
 };
 use std::ops::Range;
 
@@ -104,9 +104,9 @@ impl Bench {
         next as usize..tags
     }
 
-    /// Hands out the tags from this number on.
+    /// Hands out the tags from this number on; none where no tag has it.
     pub fn hand_out_from(&mut self, tag: usize) {
-        self.packed.state[NEXT] = tag.min(MOST_TAGS) as u64;
+        self.packed.state[NEXT] = tag as u64;
     }
 
     pub fn cursor(&self) -> u64 {
