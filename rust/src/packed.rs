@@ -87,3 +87,6 @@ impl Packed {
         }
     }
 }
+
+#[cfg(test)]
+mod tests;

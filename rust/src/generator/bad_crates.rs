@@ -27,8 +27,9 @@ pub fn poke_crate(random: &mut Random, tags: &mut Tags) {
             tags.places[tag] = tags.places[other];
         }
         6 => overlap(random, tags),
-        7 => tags.places[tag].1 = random.pick(&[0, 1, 23, 24]),
-        8 | 9 => tags.replace(tag, &image_of_odd_words(random)),
+        7 => nest(random, tags),
+        8 => tags.places[tag].1 = random.pick(&[0, 1, 23, 24]),
+        9 | 10 => tags.replace(tag, &image_of_odd_words(random)),
         _ => {
             let mut image = tags.image(tag).to_vec();
             poke_image(random, &mut image);
@@ -91,4 +92,24 @@ fn overlap(random: &mut Random, tags: &mut Tags) {
     let from = tags.memory.len();
     tags.memory.extend(&second);
     tags.places[two] = (from as u64, second.len() as u64);
+}
+
+/// Two tags of which one lies whole in the bytes behind the other's last bank: both images are good.
+fn nest(random: &mut Random, tags: &mut Tags) {
+    let number = tags.places.len();
+    let (one, two) = (random.below(number), random.below(number));
+    let inner = tags.image(two).to_vec();
+    let mut outer = tags.image(one).to_vec();
+    let start = outer.len() + random.below(4);
+    let total = start + inner.len() + random.below(4);
+    if one == two || total > 2048 {
+        return;
+    }
+    outer.resize(start, 0);
+    outer.extend(&inner);
+    outer.resize(total, 0);
+    set_double(&mut outer, 2, total);
+    tags.replace(one, &outer);
+    let from = tags.places[one].0 + start as u64;
+    tags.places[two] = (from, inner.len() as u64);
 }
