@@ -11,6 +11,7 @@ use poldrisk::model::Bench;
 use poldrisk::packed::{LIMIT, NONE_TO_HAND_OUT};
 
 impl Trial<'_> {
+    /// An inventory, or a hand-out that goes on from any number, and what comes of it.
     pub fn interrupted_hand_out(&mut self) -> Result<(), Different> {
         let (more, behind) = self.something_to_find();
         let input = [&INVENTORY[..], &more].concat();

@@ -83,6 +83,7 @@ impl Trial<'_> {
         let bench = &self.pair.bench;
         let to_hand_out = (bench.places.len() as u64).saturating_sub(bench.next);
         let mut most = (input.len() as u64).saturating_sub(bench.cursor) + to_hand_out;
+        // by the last inventory, as long as nothing else was taken
         let mut handed_out = 0;
         loop {
             let at = self.pair.bench.cursor;
@@ -90,12 +91,12 @@ impl Trial<'_> {
             if number != 0 && number != 3 {
                 return Ok(());
             }
-            handed_out += 1;
             if self.pair.bench.cursor > at {
-                handed_out = 1;
-                if number == 0 && is_inventory(&input[at as usize..]) {
-                    most += 15;
-                }
+                let inventory = number == 0 && input[at as usize..].starts_with(&INVENTORY);
+                handed_out = u64::from(inventory);
+                most += 15 * handed_out;
+            } else if handed_out > 0 {
+                handed_out += 1;
             }
             if handed_out == 16 {
                 self.seen.add(Situation::SixteenFromOneInventory);
@@ -143,10 +144,6 @@ impl Trial<'_> {
             }
         });
     }
-}
-
-fn is_inventory(rest: &[u8]) -> bool {
-    rest.starts_with(&INVENTORY)
 }
 
 fn start_cursor(random: &mut Random, input: &[u8]) -> u64 {
