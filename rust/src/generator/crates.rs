@@ -55,6 +55,10 @@ pub fn good_crate(random: &mut Random) -> Tags {
         };
         images.push(image);
     }
+    // else a large crate hardly ever has all its tags to hand out
+    if random.percent(25) {
+        images.iter_mut().for_each(|image| image[22] = 0);
+    }
     placed(random, &images)
 }
 
