@@ -1,4 +1,4 @@
-/* Poldrisk for C: a bench that plays a UHF reader module with one Gen2 tag in front of it.
+/* Poldrisk for C: a bench that plays a UHF reader module with a crate of Gen2 tags in front of it.
  *
  * Link with target/staticlib/libembed.a, which `rt staticlib embed` writes. The library keeps
  * nothing between calls, allocates nothing and calls nothing; it may be used from any thread, as
@@ -14,7 +14,7 @@
 extern "C" {
 #endif
 
-/* The ten numbers of a bench's state: the cursor, seven counts, and what a call reports. */
+/* The twelve numbers of a bench's state. A bench starts with NEXT at 16 and all others at 0. */
 enum {
     POLDRISK_CURSOR = 0,              /* where the next call looks at the input */
     POLDRISK_GOOD = 1,                /* good answers */
@@ -26,7 +26,9 @@ enum {
     POLDRISK_DROPPED_WRONG_END = 7,
     POLDRISK_LENGTH = 8,              /* written by a call: the length of its answer frame, else 0 */
     POLDRISK_REASON = 9,              /* written by a call: why it dropped a byte, else 0 */
-    POLDRISK_STATE_LENGTH = 10
+    POLDRISK_NEXT = 10,               /* the first tag that may still be handed out; 16 for none */
+    POLDRISK_SELECTED = 11,           /* how many of the 39 bytes are the selection; 0 for none */
+    POLDRISK_STATE_LENGTH = 12
 };
 
 /* Why a byte was dropped. They are tried in this order, and the first that holds is the reason: with
@@ -41,43 +43,74 @@ enum {
 
 /* An answer frame has at most this many bytes, and no shorter output is accepted. */
 #define POLDRISK_OUTPUT_LENGTH 136
+/* The room for a selection: the parameters of a Set Select, 7 bytes and a mask of at most 32. */
+#define POLDRISK_SELECTION_LENGTH 39
+/* A crate holds up to this many tags, numbered from 0. */
+#define POLDRISK_MOST_TAGS 16
+/* NEXT where no tag is still to be handed out. */
+#define POLDRISK_NONE_TO_HAND_OUT 16
 
 /* The answer numbers. */
 enum {
-    POLDRISK_ANSWERED = 0,     /* a command was accepted: its answer frame stands at the start of the output */
+    POLDRISK_ANSWERED = 0,     /* a command was accepted, or the next tag of an inventory handed out:
+                                * the answer frame stands at the start of the output */
     POLDRISK_AT_END = 1,       /* the cursor is at the end of the input */
     POLDRISK_INCOMPLETE = 2,   /* the frame at the cursor is not complete */
     POLDRISK_BYTE_DROPPED = 3, /* the byte at the cursor was dropped, for the reason at POLDRISK_REASON */
     POLDRISK_PAST_END = 10,    /* the cursor is past the end of the input */
-    POLDRISK_BAD_IMAGE = 11,   /* the image breaks a rule of a good image; its EPC word 0 must be the CRC-16 of PC and EPC */
+    POLDRISK_BAD_CRATE = 11,   /* the crate breaks a rule: see "A good crate" */
     POLDRISK_SHORT_OUTPUT = 12, /* the output is shorter than 136 bytes */
     POLDRISK_FULL_TALLY = 13,  /* one of the seven counts is at 4,294,967,295 */
-    POLDRISK_BAD_STATE_LENGTH = 20, /* state_length is not 10 */
-    POLDRISK_BAD_COUNT = 21    /* one of the seven counts is above 4,294,967,295 */
+    POLDRISK_BAD_STATE_LENGTH = 20, /* state_length is not 12 */
+    POLDRISK_BAD_COUNT = 21,   /* one of the seven counts is above 4,294,967,295 */
+    POLDRISK_BAD_PLACES = 22   /* places_length is odd, or one of the first 32 numbers is above
+                                * 4,294,967,295 */
 };
 
-/* One call: looks at the input from the cursor, and takes one command or drops one byte.
+/* One call: hands out the next tag of an inventory, or else looks at the input from the cursor and
+ * takes one command or drops one byte.
  *
- * Any bytes, image, cursor and counts will do, and the call always returns one of the numbers
- * above. It tests in this order: 20, 21, 10, 11, 12, 13, and then looks for a command.
+ * The crate. Each tag has its image in the memory; places has two numbers for each tag, in the order
+ * of the tags: where the image starts, and how many bytes it has. The selection is the parameters of
+ * the last Set Select that was taken, of which POLDRISK_SELECTED says how many they are. The bytes
+ * behind them are not looked at.
  *
- * - 0: the command is carried out on the image, its answer frame is written to the start of the
- *   output, the cursor moves over the command, and the good or the error count goes up by one.
- *   The bytes of the output behind the frame stay.
- * - 3: the cursor and the dropped count of the reason go up by one; image and output stay.
- * - 1, 2, 10, 11, 12, 13: image, output, cursor and counts stay.
- * - 20, 21: nothing changes, length and reason included.
+ * A good crate has at most 16 tags, or none; no place leaves the memory or overlaps another, in
+ * whatever order they lie; each image keeps the rules of a good image, its EPC word 0 the CRC-16 of
+ * PC and EPC; and the selection is empty or one that Set Select takes, so at most 39 bytes.
  *
- * But for 20 and 21 a call writes length and reason: the length of the answer frame under 0, the
- * reason under 3, and 0 otherwise. What stands there before the call is not looked at.
+ * Any bytes, places, selection, cursor and counts will do, and the call always returns one of the
+ * numbers above. It tests in this order: 20, 21, 22, 10, 11, 12, 13. Then, if a tag from
+ * POLDRISK_NEXT on is present and matches the selection, the lowest of these is handed out and the
+ * input is not looked at, not even whether something is left of it. Else a command is looked for.
+ *
+ * - 0, a tag handed out: its notification is written to the start of the output, the good count
+ *   goes up by one, and NEXT is the tag's number plus 1. The cursor stays.
+ * - 0, a command accepted: it is carried out, its answer frame is written to the start of the
+ *   output, the cursor moves over it, and the good or the error count goes up by one. An inventory
+ *   hands out the first tag so, and NEXT is its number plus 1; with every other command, and an
+ *   inventory that finds no tag, NEXT is 16. A Set Select that is taken writes its parameters to the
+ *   front of the selection and their number to SELECTED; the bytes behind them stay. Read,
+ *   Write, Lock and Kill go to the lowest tag that is present and matches, and no byte outside its
+ *   place changes.
+ * - 3: the cursor and the dropped count of the reason go up by one; all else stays.
+ * - 1, 2, 10, 11, 12, 13: all stays.
+ * - 20, 21, 22: nothing changes, length and reason included.
+ *
+ * Under 0 the bytes of the output behind the frame stay. But for 20, 21 and 22 a call writes length
+ * and reason: the length of the answer frame under 0, the reason under 3, and 0 otherwise. What
+ * stands there before the call is not looked at. A NEXT that is no tag's number means none.
  *
  * What the caller owes, since no test can show it: each pointer is that of as many readable (and,
- * but for the input, writable) elements as its length says, is not null even where the length is
- * 0, and no two of the four overlap. The state is aligned as uint64_t is.
+ * but for input and places, writable) elements as its length says, the selection that of 39 bytes;
+ * none is null even where the length is 0; and none of what a call may write, which is memory, output,
+ * selection and state, overlaps any other of the six. Places and state are aligned as uint64_t is.
  */
 uint64_t poldrisk_call(const uint8_t *input, size_t input_length,
-                       uint8_t *image, size_t image_length,
+                       uint8_t *memory, size_t memory_length,
                        uint8_t *output, size_t output_length,
+                       const uint64_t *places, size_t places_length,
+                       uint8_t *selection /* POLDRISK_SELECTION_LENGTH bytes */,
                        uint64_t *state, size_t state_length);
 
 #ifdef __cplusplus

@@ -1,6 +1,8 @@
 //! How often each way through the rules was taken, and each thing that a Lock may ask of a region.
 
-use super::{Branch, Field, BRANCHES, REGIONS};
+use super::branches::{Branch, BRANCHES};
+use super::locking::Field;
+use super::locks::REGIONS;
 use std::sync::atomic::{AtomicU64, Ordering};
 
 /// What a Lock asks beside one region's field.

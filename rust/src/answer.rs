@@ -1,0 +1,66 @@
+//! How a call ends.
+
+use crate::packed::{Packed, LENGTH, REASON};
+
+#[derive(Clone, Copy, Debug, PartialEq, Eq)]
+pub enum Answer {
+    /// A command was accepted, or the next tag of an inventory handed out; the answer frame has this
+    /// many bytes.
+    Answered(usize),
+    AtEnd,
+    Incomplete,
+    /// The byte at the cursor was dropped, for this reason.
+    Dropped(Reason),
+    PastEnd,
+    /// More than sixteen tags, places that overlap or leave the memory, a bad image, or a selection
+    /// that Set Select would not take.
+    BadCrate,
+    FullTally,
+}
+
+/// Why a byte was dropped. A byte for which several would do has the first of them.
+#[derive(Clone, Copy, Debug, PartialEq, Eq)]
+pub enum Reason {
+    /// It is not BB.
+    NoHeader = 1,
+    /// It is a BB, and the byte behind it is not 00.
+    WrongType = 2,
+    /// It is a BB with a PL above 80 behind it.
+    TooLong = 3,
+    /// It is the BB of a whole frame with another check than the sum of its bytes.
+    WrongCheck = 4,
+    /// It is the BB of a whole frame with the right check and another last byte than 7E.
+    WrongEnd = 5,
+}
+
+impl Reason {
+    fn of(number: u64) -> Reason {
+        match number {
+            1 => Reason::NoHeader,
+            2 => Reason::WrongType,
+            3 => Reason::TooLong,
+            4 => Reason::WrongCheck,
+            5 => Reason::WrongEnd,
+            // under answer 3 the library reports one of the five
+            other => unreachable!("reason {other}"),
+        }
+    }
+}
+
+impl Answer {
+    /// What a call's number says, with the length or the reason that it left.
+    pub(crate) fn of(number: u64, left: &Packed) -> Answer {
+        match number {
+            0 => Answer::Answered(left.state[LENGTH] as usize),
+            1 => Answer::AtEnd,
+            2 => Answer::Incomplete,
+            3 => Answer::Dropped(Reason::of(left.state[REASON])),
+            10 => Answer::PastEnd,
+            11 => Answer::BadCrate,
+            13 => Answer::FullTally,
+            // the others cannot come: the output has 136 bytes, the state twelve numbers, a place
+            // two, and counts and places are 32 bits wide
+            other => unreachable!("answer number {other}"),
+        }
+    }
+}
