@@ -1,6 +1,5 @@
 pub mod Answering
 pub mod Bounding
-pub mod Callers
 pub mod Claimed
 pub mod Computed
 pub mod Effects
