@@ -1,5 +1,5 @@
--- Plain steps of polynomial 1021 as a sum of shifts, sixteen and sixty-four at once. Both go through exclusive or, so they are the same on every number
--- because they are on the numbers with one bit: one computed test over each of the two.
+-- Plain steps of polynomial 1021 as a sum of shifts, sixteen, thirty-two and sixty-four at once. Both go through exclusive or, so they are the same on every number
+-- because they are on the numbers with one bit: one computed test over each of the three.
 use Prim.Native.Nat.{ℕ, zero, suc, _+_, _-_, _*_, _/_, _%_, _^_, _≤_, _<_}
 use borrow.Author.Tests.{leb-true, leb-false}
 use lib.Bits.{bitXor, xor-shr, xor-mod, xor-block, xor-lt, xor-shifted}
@@ -148,10 +148,57 @@ folded-is n word =
     (same-rows (λ n. spread (sum n)) (λ n. steps (n % 0x10000)) 16 sixteen-rows) n word
     ∙ ap steps whole
 
--- ---- sixty-four steps, of a number of four times sixteen bits
+-- ---- thirty-two steps, of a number of two times sixteen bits
 
 abbrev once : ℕ → ℕ
 once n = bitXor (bitXor (bitXor n (n / 16)) (n / 2048)) (n / 65536)
+
+abbrev halfTwice : ℕ → ℕ
+halfTwice n = bitXor (bitXor n (n / 256)) (n / 4194304)
+
+abbrev halfSum : ℕ → ℕ
+halfSum n = bitXor (halfTwice (once n)) (halfTwice (once n) / 65536) % 65536
+
+half-sums : Adds halfSum
+half-sums =
+    after (λ n. n % 65536) (λ n. bitXor (halfTwice (once n)) (halfTwice (once n) / 65536)) (under 16)
+    (after (λ n. bitXor n (n / 65536)) (λ n. halfTwice (once n)) (one-shift 16) (after halfTwice once (two-shifts 8 22) (three-shifts 4 11 16)))
+
+abbrev pair : ℕ → ℕ
+pair n = bitXor (steps (n / 65536 % 0x10000)) (n % 0x10000)
+
+pairs : Register pair
+pairs = joined (λ n. steps (n / 65536 % 0x10000)) (λ n. n % 0x10000) (stepped (λ n. n / 65536 % 0x10000) (piece 16)) last-piece
+
+half-rows : rows (λ n. spread (halfSum n)) 32 0 ≡ rows (λ n. steps (pair n)) 32 0
+unfolding rows bitSteps bitStep leaving shifted added
+half-rows = refl
+
+half-is : (n : ℕ) → n < 2 ^ 32 → spread (halfSum n) ≡ steps (pair n)
+unfolding bitSteps bitStep leaving shifted added
+half-is =
+    by-bits (λ n. spread (halfSum n)) (λ n. steps (pair n)) (after spread halfSum spreads half-sums) (stepped pair pairs .adds) refl 32
+    (same-rows (λ n. spread (halfSum n)) (λ n. steps (pair n)) 32 half-rows)
+
+pair-is : (n x l : ℕ) → x < 65536 → l < 65536 → n ≡ x * 65536 + l → steps (pair n) ≡ steps (bitXor (steps x) l)
+pair-is n x l word lower e =
+    let one : n / 65536 % 65536 ≡ x = omega arith in
+    let two : n % 65536 ≡ l = omega arith in
+    ap steps (ap₂ (λ (a b : ℕ). bitXor (steps a) b) one two)
+
+pub half-folded : (register four : ℕ) → register < 0x10000 → four < 4294967296 → spread (halfSum (bitXor (register * 65536) four)) ≡ fourSteps register four
+half-folded register four word small =
+    let x : ℕ = bitXor register (four / 65536) in
+    let x-small : x < 0x10000 = xor-lt 16 register (four / 65536) word (omega arith) in
+    let front : register * 65536 ≡ register * 65536 + 0 = omega arith in
+    let behind : four ≡ four / 65536 * 65536 + four % 65536 = omega arith in
+    let n : ℕ = bitXor (register * 65536) four in
+    let n-is : n ≡ x * 65536 + four % 65536 =
+    ap₂ bitXor front behind ∙ xor-block 16 register (four / 65536) 0 (four % 65536) (omega arith) (omega arith)
+    in
+    half-is n (omega (arith, n-is, x-small)) ∙ pair-is n x (four % 65536) x-small (omega arith) n-is
+
+-- ---- sixty-four steps, of a number of four times sixteen bits
 
 abbrev twice : ℕ → ℕ
 twice n = bitXor (bitXor (bitXor n (n / 256)) (n / 4194304)) (n / 4294967296)
@@ -255,7 +302,7 @@ module _ (bytes : List ℕ) (are : Bytes bytes) where
       (ap (λ (v : ℕ). steps (bitXor register v)) e ∙ entered-together register (getD bytes i 0) (getD bytes (i + 1) 0) word (are i) (are (i + 1)))
       ∙ two-bytes-next HighFirst 0x1021 bytes i register inside
 
-  four-next : (register i : ℕ) → register < 0x10000 → 4 ≤ length bytes - i
+  pub four-next : (register i : ℕ) → register < 0x10000 → 4 ≤ length bytes - i
       → crc HighFirst 0x1021 (fourSteps register (fourIn bytes i)) (drop (i + 4) bytes) ≡ crc HighFirst 0x1021 register (drop i bytes)
   four-next register i word inside =
       let four : ℕ = fourIn bytes i in
@@ -272,7 +319,7 @@ module _ (bytes : List ℕ) (are : Bytes bytes) where
       ∙ two-next half-way (i + 2) (four % 65536) half-small (omega arith) second
       ∙ two-next register i (four / 65536) word (omega arith) first
 
-  four-kept : (register i : ℕ) → register < 0x10000 → fourSteps register (fourIn bytes i) < 0x10000
+  pub four-kept : (register i : ℕ) → register < 0x10000 → fourSteps register (fourIn bytes i) < 0x10000
   four-kept register i word =
       let four : ℕ = fourIn bytes i in
       entered-small (steps (bitXor register (four / 65536))) (four % 65536) (entered-small register (four / 65536) word (omega (arith, four-small i))) (omega arith)

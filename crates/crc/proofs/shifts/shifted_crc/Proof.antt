@@ -68,23 +68,23 @@ loop-again c =
       ),
     )
 
-sub-by-twos : tie.Need-sub-by-twos Inv-loop μ-loop
-sub-by-twos c = omega arith
+sub-by-fours : tie.Need-sub-by-fours Inv-loop μ-loop
+sub-by-fours c = omega arith
 
-part-by-twos-start : tie.Need-part-by-twos-start Inv-loop μ-loop
-part-by-twos-start c = omega arith
+part-by-fours-start : tie.Need-part-by-fours-start Inv-loop μ-loop
+part-by-fours-start c = omega arith
 
-part-by-twos-end : tie.Need-part-by-twos-end Inv-loop μ-loop
-part-by-twos-end c = omega arith
+part-by-fours-end : tie.Need-part-by-fours-end Inv-loop μ-loop
+part-by-fours-end c = omega arith
 
-by-twos-requires : tie.Need-by-twos-requires Inv-loop μ-loop
-by-twos-requires c κs = search needs
+by-fours-requires : tie.Need-by-fours-requires Inv-loop μ-loop
+by-fours-requires c κs = search needs
 
 returns : tie.Need-returns Inv-loop μ-loop
 returns c =
     let at = c .before .before .before in
     let bytes = now (at .before .before .args .bytes) in
-    c .by-twos .ensures
+    c .by-fours .ensures
     ∙ ap (crc HighFirst 0x1021 (at .loop .worked)) (take-all (length bytes - at .loop .i) (drop (at .loop .i) bytes) (omega (arith, length-drop (at .loop .i) bytes)))
     ∙ at .loop .inv .1 .1
 
@@ -103,8 +103,8 @@ shifted-crc-spec =
     add-i
     loop-less
     loop-again
-    sub-by-twos
-    part-by-twos-start
-    part-by-twos-end
-    by-twos-requires
+    sub-by-fours
+    part-by-fours-start
+    part-by-fours-end
+    by-fours-requires
     returns)
