@@ -8,12 +8,12 @@ use lib.ListN.{length, take, replicate}
 use lib.Seq.{sets}
 use Rattle.bench.specs.Machine.{readerOf, counted}
 use Rattle.bench.specs.declared.outcome.Outcome.the-variants.{Answered}
-use Rattle.calls.specs.Machine.{State, stateOf, Step, parametersAt, decide, plainError, selectTaken}
+use Rattle.calls.specs.Machine.{State, stateOf, call, Step, parametersAt, decide, plainError, selectTaken, step}
 use Rattle.calls.specs.declared.calling.Called.{Called}
 use Rattle.calls.specs.declared.deciding.Aimed.{Aimed}
 use Rattle.calls.specs.declared.deciding.Job.{Job}
 use Rattle.calls.specs.declared.deciding.Job.the-variants.{Stay, DropByte, Select, Miss, Aim}
-use Rattle.frame.specs.Bytes.{pick}
+use Rattle.frame.specs.Bytes.{pick, byte}
 use Rattle.frame.specs.Frames.{written}
 use Rattle.image.specs.Image.{good}
 use Rattle.population.specs.Executing.{replaced}
@@ -59,6 +59,16 @@ lentAfter input cursor l (Aim a) = l
 
 unfoldable pub lentBy : List ℕ → State → Lent → Lent
 lentBy input s l = lentAfter input (s .reader .cursor) l (decide input s)
+
+-- What stands in front of them is the machine's selection after a call as before it, where they are bytes of an input of bytes. It is proved in
+-- proofs/Callers.antt.
+abbrev pub LentSelection : Type 0
+LentSelection =
+    (input : List ℕ) (s : State) (l : Lent)
+    → ((i : ℕ) → byte input i < 256)
+    → length (l .bytes) ≡ 39
+    → selectionIn (l .bytes) (l .count) ≡ s .selection
+    → selectionIn (lentBy input s l .bytes) (lentBy input s l .count) ≡ step (call input) s .next .selection
 
 -- ---- in parts
 
