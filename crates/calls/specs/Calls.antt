@@ -45,11 +45,11 @@ pub record Lent : Type 0 where
 abbrev pub lentOf : List ℕ → ℕ → Lent
 lentOf bytes count = record { bytes = bytes; count = count }
 
--- A Set Select that is taken: its parameters stand in front, the bytes behind them stay, and as many as they are is the selection.
+-- A Set Select that is taken: its parameters stand in front, the bytes behind them stay, and the count is their number.
 unfoldable pub withSelected : List ℕ → Lent → Lent
 withSelected p l = pick (taken p) (lentOf (sets (l .bytes) 0 p) (length p)) l
 
--- No other job changes a byte, or their number.
+-- No other job changes a byte or the count.
 unfoldable pub lentAfter : List ℕ → ℕ → Lent → Job → Lent
 lentAfter input cursor l (Stay outcome) = l
 lentAfter input cursor l (DropByte r) = l
@@ -60,8 +60,7 @@ lentAfter input cursor l (Aim a) = l
 unfoldable pub lentBy : List ℕ → State → Lent → Lent
 lentBy input s l = lentAfter input (s .reader .cursor) l (decide input s)
 
--- What stands in front of them is the machine's selection after a call as before it, where they are bytes of an input of bytes. It is proved in
--- proofs/Callers.antt.
+-- What stands in front of them is the machine's selection after a call as before it, for any input of bytes. It is proved in proofs/Callers.antt.
 abbrev pub LentSelection : Type 0
 LentSelection =
     (input : List ℕ) (s : State) (l : Lent)

@@ -87,7 +87,7 @@ fn are_places(numbers: &[u64]) -> bool
     are_small(numbers, 2 * used)
 }
 
-// Of the twelve numbers only those are stored that a call may have changed: it costs as much as half the rest of a drop to store all.
+// Of the twelve numbers only those are stored that a call may have changed: four where a byte is dropped.
 
 // Nothing changed but what is told of this call.
 fn keep(state: &mut [u64])
