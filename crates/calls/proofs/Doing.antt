@@ -60,6 +60,10 @@ tells frame output outputLeft n f behind count t u e =
 
 -- ---- Set Select
 
+pub in-front : (bytes p : List ℕ) → length p ≤ 39 → length bytes ≡ 39 → selectionIn (sets bytes 0 p) (length p) ≡ p
+unfolding selectionIn part
+in-front bytes p few room = simp (le-leb (length p) 39 few, pick-true) (part-sets bytes 0 p (omega arith))
+
 module _ (bytes output p : List ℕ) (reader : Reader) (count behind : ℕ) (outputLeft : List ℕ) where
   pub not-taken : taken p ≡ false → (r : Called) → Told (plainError 0x17) output outputLeft (readerOf behind (withError (reader .tally))) count r
       → Selected bytes output p reader count behind bytes outputLeft r
@@ -82,10 +86,6 @@ module _ (bytes output p : List ℕ) (reader : Reader) (count behind : ℕ) (out
       let whole : part p 0 (length p) ≡ p = take-all (length p) p (omega arith) in
       copied-is p 0 (length p) bytes 0 (omega arith) (omega arith) ∙ ap (λ (l : List ℕ). sets bytes 0 l) whole
 
-  in-front : length p ≤ 39 → length bytes ≡ 39 → selectionIn (sets bytes 0 p) (length p) ≡ p
-  unfolding selectionIn part
-  in-front few room = simp (le-leb (length p) 39 few, pick-true) (part-sets bytes 0 p (omega arith))
-
   -- the mask length b, one byte, tells how many parameters there are
   module _ (h : taken p ≡ true) (b : ℕ) (bits : b ≡ byte p 5) where
     pub mask-tells : 7 + (b + 7) / 8 ≡ length p
@@ -107,7 +107,7 @@ module _ (bytes output p : List ℕ) (reader : Reader) (count behind : ℕ) (out
         ∙ ap (λ (l : List ℕ). lentOf l (length p)) (put-in-front few room)
         in
         record {
-          selection-is = ap (λ (l : Lent). selectionIn (l .bytes) (l .count)) lent ∙ in-front few room ∙ sym (simp (h, pick-true));
+          selection-is = ap (λ (l : Lent). selectionIn (l .bytes) (l .count)) lent ∙ in-front bytes p few room ∙ sym (simp (h, pick-true));
           lent-is = lent ∙ sym (simp (h, pick-true));
           output-is = f .output-is ∙ sym (simp (h, pick-true));
           outcome-is = refl;

@@ -1,6 +1,7 @@
 pub mod Absents
 pub mod Answering
 pub mod Bounding
+pub mod Callers
 pub mod Carrying
 pub mod Choosing
 pub mod Claimed

@@ -6,14 +6,12 @@ use mathlib.Core.Path.{_≡_}
 use lib.Dec.{leb}
 use lib.ListN.{length, take, replicate}
 use lib.Seq.{sets}
-use Rattle.reader.specs.Readers.{readerOf}
-use Rattle.reader.specs.declared.outcome.Outcome.the-variants.{Answered}
-use Rattle.calls.specs.Machine.{State, stateOf, Step, parametersAt, decide, plainError, selectTaken, counted}
+use Rattle.calls.specs.Machine.{State, stateOf, call, Step, parametersAt, decide, plainError, selectTaken, counted, step}
 use Rattle.calls.specs.declared.calling.Called.{Called}
 use Rattle.calls.specs.declared.deciding.Aimed.{Aimed}
 use Rattle.calls.specs.declared.deciding.Job.{Job}
 use Rattle.calls.specs.declared.deciding.Job.the-variants.{Stay, DropByte, Select, Miss, Aim}
-use Rattle.frame.specs.Bytes.{pick}
+use Rattle.frame.specs.Bytes.{pick, byte}
 use Rattle.frame.specs.Frames.{written}
 use Rattle.image.specs.Image.{good}
 use Rattle.population.specs.Executing.{replaced}
@@ -22,6 +20,8 @@ use Rattle.population.specs.Selections.{taken}
 use Rattle.population.specs.declared.places.Place.{Place}
 use Rattle.reader.specs.Tallies.{withGood, withError}
 use Rattle.reader.specs.declared.state.Reader.{Reader}
+use Rattle.reader.specs.Readers.{readerOf}
+use Rattle.reader.specs.declared.outcome.Outcome.the-variants.{Answered}
 use Rattle.tag.specs.Answers.{answer, changed, isError}
 use Rattle.tag.specs.declared.commands.Act.{Act}
 
@@ -45,11 +45,11 @@ pub record Lent : Type 0 where
 abbrev pub lentOf : List ℕ → ℕ → Lent
 lentOf bytes count = record { bytes = bytes; count = count }
 
--- A Set Select that is taken: its parameters stand in front, the bytes behind them stay, and as many as they are is the selection.
+-- A Set Select that is taken: its parameters stand in front, the bytes behind them stay, and the count is their number.
 unfoldable pub withSelected : List ℕ → Lent → Lent
 withSelected p l = pick (taken p) (lentOf (sets (l .bytes) 0 p) (length p)) l
 
--- No other job changes a byte, or their number.
+-- No other job changes a byte or the count.
 unfoldable pub lentAfter : List ℕ → ℕ → Lent → Job → Lent
 lentAfter input cursor l (Stay outcome) = l
 lentAfter input cursor l (DropByte r) = l
@@ -59,6 +59,15 @@ lentAfter input cursor l (Aim a) = l
 
 unfoldable pub lentBy : List ℕ → State → Lent → Lent
 lentBy input s l = lentAfter input (s .reader .cursor) l (decide input s)
+
+-- What stands in front of them is the machine's selection after a call as before it, for any input of bytes. It is proved in proofs/Callers.antt.
+abbrev pub LentSelection : Type 0
+LentSelection =
+    (input : List ℕ) (s : State) (l : Lent)
+    → ((i : ℕ) → byte input i < 256)
+    → length (l .bytes) ≡ 39
+    → selectionIn (l .bytes) (l .count) ≡ s .selection
+    → selectionIn (lentBy input s l .bytes) (lentBy input s l .count) ≡ step (call input) s .next .selection
 
 -- ---- in parts
 

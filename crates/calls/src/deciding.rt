@@ -142,6 +142,10 @@ pub fn decide(
     if tally.is_full() {
         return Job::Stay(Outcome::FullTally);
     }
+    // No tag is left to hand out, as at most calls.
+    if tags <= next {
+        return find_job(input, memory, selected, places, tags, cursor);
+    }
     let waiting = find_lowest(memory, tags, places, selected, next);
     match waiting {
         Lowest::Tag { number, place } => Job::Aim(Aimed {

@@ -1,3 +1,4 @@
 pub mod Claims
 pub mod Crc
+pub mod Shifts
 pub mod Tables

@@ -3,7 +3,7 @@ use Prim.Native.Nat.{ℕ, zero, suc, _/_, _^_, _≤_, _<_}
 use borrow.Author.Tests.{ltb-false, le-ltb, eq-eqb, ne-eqb}
 use lib.Bits.{bitOr, or-lt}
 use lib.Dec.{ltb}
-use lib.ListN.{length, set, getD}
+use lib.ListN.{length, getD}
 use mathlib.Core.Bool.{Bool, true, false}
 use mathlib.Core.List.{List, [], _∷_}
 use mathlib.Core.Path.{_≡_, refl, sym, ap, ap₂, _∙_}
@@ -12,7 +12,7 @@ use Rattle.reader.specs.Outcomes.{numberOf, reasonOf}
 use Rattle.calls.specs.Calls.{selectionIn, stepOf, lentOf, lentBy}
 use Rattle.calls.specs.Machine.{stateOf, call, step}
 use Rattle.calls.specs.declared.calling.Called.{Called}
-use Rattle.embed.specs.Packed.{packed, countsIn, anyAbove, readerIn, leftBy, told, stateIn, stepped, calledWith, called}
+use Rattle.embed.specs.Packed.{packed, countsIn, anyAbove, readerIn, Left, leftBy, told, stateIn, stepped, calledWith, called}
 use Rattle.embed.specs.Placed.{tagsIn, usedOf, placesFit, placed}
 use Rattle.embed.specs.declared.Unpacked.{Unpacked}
 use Rattle.embed.specs.declared.Unpacked.the-variants.{Fit, OutOfRange}
@@ -23,24 +23,24 @@ use Rattle.reader.proofs.Tallies.{or-most-l, or-most-r, orAll}
 use Rattle.reader.specs.Tallies.{tallyOf, limit}
 use Rattle.reader.specs.declared.state.Reader.{Reader}
 
--- twelve numbers, each of them stored
-pub all-stored : (state : List ℕ) → length state ≡ 12 → (a b c d e f g h i j k l : ℕ)
-    → set (set (set (set (set (set (set (set (set (set (set (set state 0 a) 1 b) 2 c) 3 d) 4 e) 5 f) 6 g) 7 h) 8 i) 9 j) 10 k) 11 l
-    ≡ a ∷ b ∷ c ∷ d ∷ e ∷ f ∷ g ∷ h ∷ i ∷ j ∷ k ∷ l ∷ []
-all-stored (s0 ∷ s1 ∷ s2 ∷ s3 ∷ s4 ∷ s5 ∷ s6 ∷ s7 ∷ s8 ∷ s9 ∷ s10 ∷ s11 ∷ []) n a b c d e f g h i j k l = refl
-all-stored [] n a b c d e f g h i j k l = absurd (omega arith)
-all-stored (s0 ∷ []) n a b c d e f g h i j k l = absurd (omega arith)
-all-stored (s0 ∷ s1 ∷ []) n a b c d e f g h i j k l = absurd (omega arith)
-all-stored (s0 ∷ s1 ∷ s2 ∷ []) n a b c d e f g h i j k l = absurd (omega arith)
-all-stored (s0 ∷ s1 ∷ s2 ∷ s3 ∷ []) n a b c d e f g h i j k l = absurd (omega arith)
-all-stored (s0 ∷ s1 ∷ s2 ∷ s3 ∷ s4 ∷ []) n a b c d e f g h i j k l = absurd (omega arith)
-all-stored (s0 ∷ s1 ∷ s2 ∷ s3 ∷ s4 ∷ s5 ∷ []) n a b c d e f g h i j k l = absurd (omega arith)
-all-stored (s0 ∷ s1 ∷ s2 ∷ s3 ∷ s4 ∷ s5 ∷ s6 ∷ []) n a b c d e f g h i j k l = absurd (omega arith)
-all-stored (s0 ∷ s1 ∷ s2 ∷ s3 ∷ s4 ∷ s5 ∷ s6 ∷ s7 ∷ []) n a b c d e f g h i j k l = absurd (omega arith)
-all-stored (s0 ∷ s1 ∷ s2 ∷ s3 ∷ s4 ∷ s5 ∷ s6 ∷ s7 ∷ s8 ∷ []) n a b c d e f g h i j k l = absurd (omega arith)
-all-stored (s0 ∷ s1 ∷ s2 ∷ s3 ∷ s4 ∷ s5 ∷ s6 ∷ s7 ∷ s8 ∷ s9 ∷ []) n a b c d e f g h i j k l = absurd (omega arith)
-all-stored (s0 ∷ s1 ∷ s2 ∷ s3 ∷ s4 ∷ s5 ∷ s6 ∷ s7 ∷ s8 ∷ s9 ∷ s10 ∷ []) n a b c d e f g h i j k l = absurd (omega arith)
-all-stored (s0 ∷ s1 ∷ s2 ∷ s3 ∷ s4 ∷ s5 ∷ s6 ∷ s7 ∷ s8 ∷ s9 ∷ s10 ∷ s11 ∷ s12 ∷ s) n a b c d e f g h i j k l = absurd (omega arith)
+-- a list of twelve numbers, number by number
+pub twelve-cases : (P : List ℕ → Type 0)
+    → ((s0 s1 s2 s3 s4 s5 s6 s7 s8 s9 s10 s11 : ℕ) → P (s0 ∷ s1 ∷ s2 ∷ s3 ∷ s4 ∷ s5 ∷ s6 ∷ s7 ∷ s8 ∷ s9 ∷ s10 ∷ s11 ∷ []))
+    → (state : List ℕ) → length state ≡ 12 → P state
+twelve-cases P twelve (s0 ∷ s1 ∷ s2 ∷ s3 ∷ s4 ∷ s5 ∷ s6 ∷ s7 ∷ s8 ∷ s9 ∷ s10 ∷ s11 ∷ []) h = twelve s0 s1 s2 s3 s4 s5 s6 s7 s8 s9 s10 s11
+twelve-cases P twelve [] h = absurd (omega arith)
+twelve-cases P twelve (s0 ∷ []) h = absurd (omega arith)
+twelve-cases P twelve (s0 ∷ s1 ∷ []) h = absurd (omega arith)
+twelve-cases P twelve (s0 ∷ s1 ∷ s2 ∷ []) h = absurd (omega arith)
+twelve-cases P twelve (s0 ∷ s1 ∷ s2 ∷ s3 ∷ []) h = absurd (omega arith)
+twelve-cases P twelve (s0 ∷ s1 ∷ s2 ∷ s3 ∷ s4 ∷ []) h = absurd (omega arith)
+twelve-cases P twelve (s0 ∷ s1 ∷ s2 ∷ s3 ∷ s4 ∷ s5 ∷ []) h = absurd (omega arith)
+twelve-cases P twelve (s0 ∷ s1 ∷ s2 ∷ s3 ∷ s4 ∷ s5 ∷ s6 ∷ []) h = absurd (omega arith)
+twelve-cases P twelve (s0 ∷ s1 ∷ s2 ∷ s3 ∷ s4 ∷ s5 ∷ s6 ∷ s7 ∷ []) h = absurd (omega arith)
+twelve-cases P twelve (s0 ∷ s1 ∷ s2 ∷ s3 ∷ s4 ∷ s5 ∷ s6 ∷ s7 ∷ s8 ∷ []) h = absurd (omega arith)
+twelve-cases P twelve (s0 ∷ s1 ∷ s2 ∷ s3 ∷ s4 ∷ s5 ∷ s6 ∷ s7 ∷ s8 ∷ s9 ∷ []) h = absurd (omega arith)
+twelve-cases P twelve (s0 ∷ s1 ∷ s2 ∷ s3 ∷ s4 ∷ s5 ∷ s6 ∷ s7 ∷ s8 ∷ s9 ∷ s10 ∷ []) h = absurd (omega arith)
+twelve-cases P twelve (s0 ∷ s1 ∷ s2 ∷ s3 ∷ s4 ∷ s5 ∷ s6 ∷ s7 ∷ s8 ∷ s9 ∷ s10 ∷ s11 ∷ s12 ∷ s) h = absurd (omega arith)
 
 -- ---- the reader: its seven counts
 
@@ -128,7 +128,15 @@ module _ (input memory output numbers bytes state : List ℕ) where
   no-places made reader h e k p = sym (simp (p, pick-false)) ∙ made-known made (Fit reader) h e k
 
   pub carried-out : (made : Unpacked) (reader : Reader) → length state ≡ 12 → made ≡ readerIn state → made ≡ Fit reader → placesFit numbers ≡ true
-      → (used : ℕ) → used ≡ usedOf (length numbers / 2) → (row : List Place) → row ≡ placed numbers used
+      → (left : Left) → left ≡ stepped input (stateIn memory output numbers bytes state reader) (lentOf bytes (getD state 11 0))
+      → left ≡ called input memory output numbers bytes state
+  unfolding calledWith
+  carried-out made reader h e k p left done = done ∙ sym (simp (p, pick-true)) ∙ made-known made (Fit reader) h e k
+
+-- ---- the call between unpacking and storing
+
+module _ (input memory output numbers bytes state : List ℕ) (reader : Reader) where
+  pub packed-step : (used : ℕ) → used ≡ usedOf (length numbers / 2) → (row : List Place) → row ≡ placed numbers used
       → (r : Called) (memory′ output′ bytes′ : List ℕ)
       → stepOf r memory′ row (length numbers / 2) bytes′ output′
       ≡ step (call input) (stateOf memory row (length numbers / 2) (selectionIn bytes (getD state 11 0)) output reader (getD state 10 0))
@@ -136,9 +144,9 @@ module _ (input memory output numbers bytes state : List ℕ) where
       ≡ lentBy input (stateOf memory row (length numbers / 2) (selectionIn bytes (getD state 11 0)) output reader (getD state 10 0)) (lentOf bytes (getD state 11 0))
       → (answer : ℕ) (state′ : List ℕ) → answer ≡ numberOf (r .outcome)
       → state′ ≡ packed (r .reader) (r .length) (reasonOf (r .outcome)) (r .next) (r .count)
-      → leftBy answer memory′ output′ bytes′ state′ ≡ called input memory output numbers bytes state
-  unfolding calledWith stateIn tagsIn stepped told
-  carried-out made reader h e k p used u row w r memory′ output′ bytes′ s l answer state′ n q =
+      → leftBy answer memory′ output′ bytes′ state′ ≡ stepped input (stateIn memory output numbers bytes state reader) (lentOf bytes (getD state 11 0))
+  unfolding stateIn tagsIn stepped told
+  packed-step used u row w r memory′ output′ bytes′ s l answer state′ n q =
       let same : row ≡ placed numbers (usedOf (length numbers / 2)) = w ∙ ap (placed numbers) u in
       ap (λ (a : ℕ). leftBy a memory′ output′ bytes′ state′) n
       ∙ ap (leftBy (numberOf (r .outcome)) memory′ output′ bytes′) q
@@ -147,5 +155,3 @@ module _ (input memory output numbers bytes state : List ℕ) where
       (λ (places : List Place).
       stepped input (stateOf memory places (length numbers / 2) (selectionIn bytes (getD state 11 0)) output reader (getD state 10 0)) (lentOf bytes (getD state 11 0)))
       same
-      ∙ sym (simp (p, pick-true))
-      ∙ made-known made (Fit reader) h e k

@@ -1,7 +1,8 @@
 -- The packed state: how twelve numbers are a reader's state, a length, a reason, the hand-out and the selection's length, and one call on it.
 use Prim.Native.Nat.{ℕ}
-use mathlib.Core.Bool.{Bool, false, not, _||_}
+use mathlib.Core.Bool.{Bool, true, false, not, _||_}
 use mathlib.Core.List.{List, [], _∷_}
+use mathlib.Core.Path.{_≡_}
 use lib.Dec.{eqb, ltb}
 use lib.ListN.{length, getD}
 use Rattle.reader.specs.Outcomes.{numberOf, reasonOf}
@@ -65,6 +66,12 @@ stateIn memory output numbers bytes state reader =
 -- one call on it
 unfoldable pub stepped : List ℕ → State → Lent → Left
 stepped input s l = told (step (call input) s) (lentBy input s l)
+
+-- it is made where the twelve numbers are a reader's state and the others are places
+pub record Unpacking (numbers state : List ℕ) (reader : Reader) : Type 0 where
+  pub twelve : length state ≡ 12
+  pub fits : readerIn state ≡ Fit reader
+  pub are-places : placesFit numbers ≡ true
 
 -- counts that no tally can hold are refused with 21, then numbers that are no places with 22, and nothing changes; else the call is the machine's step
 unfoldable pub calledWith : List ℕ → List ℕ → List ℕ → List ℕ → List ℕ → List ℕ → Unpacked → Left

@@ -2,19 +2,21 @@
 // as a pointer.
 use calls::calling::Called;
 use calls::calling::call;
+use frame::finding::Reason;
+use frame::finding::reason_number;
 use population::places::Place;
-use reader::outcome::number_of;
-use reader::outcome::reason_of;
+use reader::outcome::Outcome;
 use reader::state::Reader;
 use reader::tally::Tally;
-ghost use mathlib.Core.Bool.{true};
 ghost use mathlib.Core.Path.{_≡_};
-ghost use Prim.Native.Nat.{_*_, _≤_};
-ghost use lib.ListN.{length};
-ghost use Rattle.reader.specs.Outcomes.{numberOf, reasonOf};
+ghost use Prim.Native.Nat.{_≤_};
+ghost use lib.ListN.{length, getD};
+ghost use Rattle.calls.specs.Calls.{lentOf};
 ghost use Rattle.population.specs.Below.{allBelow};
-ghost use Rattle.embed.specs.Packed.{packed, readerIn, leftBy, called as calledOn};
-ghost use Rattle.embed.specs.Placed.{usedOf, smallAt, placesFit, placed};
+ghost use Rattle.embed.specs.Kept.{kept, keptDrop, keptAnswer, keptBy};
+ghost use Rattle.embed.specs.Packed.{readerIn, leftBy, stateIn, stepped, Unpacking, called as calledOn};
+ghost use Rattle.embed.specs.Placed.{usedOf, smallAt, placesFit};
+ghost use Rattle.reader.specs.Outcomes.{numberOf};
 
 // The most that a count of the tally can hold, and a number of a place.
 const LIMIT: u64 = 4294967295;
@@ -85,67 +87,139 @@ fn are_places(numbers: &[u64]) -> bool
     are_small(numbers, 2 * used)
 }
 
-// The places of the first tags, in a row of sixteen.
-fn places_of(numbers: &[u64], tags: usize) -> [Place; 16]
-    requires { ⌜
-        (tags ≤ 16) × ((2 * tags ≤ length (now numbers)) × (allBelow (smallAt (now numbers)) (2 * tags) ≡ true))
-        ⌝ }
-    ensures { λ r. ⌜ r ≡ placed (now (numbers .entry)) tags ⌝ }
+// Of the twelve numbers only those are stored that a call may have changed: four where a byte is dropped.
+
+// Nothing changed but what is told of this call.
+fn keep(state: &mut [u64])
+    requires { ⌜ length (now state) ≡ 12 ⌝ }
+    ensures { λ _. ⌜ now (state .exit) ≡ kept (now (state .entry)) ⌝ }
 {
+    state[8] = 0;
+    state[9] = 0;
+}
+
+// A byte was dropped: the cursor, and the count of its reason.
+fn keep_drop(state: &mut [u64], reader: Reader, reason: Reason)
+    requires { ⌜ length (now state) ≡ 12 ⌝ }
+    ensures { λ _. ⌜ now (state .exit) ≡ keptDrop (now (state .entry)) reader reason ⌝ }
+{
+    let tally = reader.tally;
+    state[0] = reader.cursor as u64;
+    state[8] = 0;
+    state[9] = reason_number(reason);
+    match reason {
+        Reason::NoHeader => state[3] = tally.header as u64,
+        Reason::WrongType => state[4] = tally.kind as u64,
+        Reason::TooLong => state[5] = tally.long as u64,
+        Reason::WrongCheck => state[6] = tally.check as u64,
+        Reason::WrongEnd => state[7] = tally.end as u64,
+    }
+}
+
+// A command was answered: all but the counts of the drops.
+fn keep_answer(state: &mut [u64], called: Called)
+    requires { ⌜ length (now state) ≡ 12 ⌝ }
+    ensures { λ _. ⌜ now (state .exit) ≡ keptAnswer (now (state .entry)) called ⌝ }
+{
+    let reader = called.reader;
+    let tally = reader.tally;
+    state[0] = reader.cursor as u64;
+    state[1] = tally.good as u64;
+    state[2] = tally.error as u64;
+    state[8] = called.length as u64;
+    state[9] = 0;
+    state[10] = called.next as u64;
+    state[11] = called.count as u64;
+}
+
+// What the call changed is stored, and its number told.
+fn tell(state: &mut [u64], called: Called) -> u64
+    requires { ⌜ length (now state) ≡ 12 ⌝ }
+    ensures { λ r. ⌜ (r ≡ numberOf (called .outcome)) × (now (state .exit) ≡ keptBy (now (state .entry)) called (called .outcome)) ⌝ }
+{
+    let outcome = called.outcome;
+    match outcome {
+        Outcome::Dropped(reason) => {
+            keep_drop(state, called.reader, reason);
+            3
+        }
+        Outcome::Answered => {
+            keep_answer(state, called);
+            0
+        }
+        Outcome::AtEnd => {
+            keep(state);
+            1
+        }
+        Outcome::Incomplete => {
+            keep(state);
+            2
+        }
+        Outcome::PastEnd => {
+            keep(state);
+            10
+        }
+        Outcome::BadImage => {
+            keep(state);
+            11
+        }
+        Outcome::ShortOutput => {
+            keep(state);
+            12
+        }
+        Outcome::FullTally => {
+            keep(state);
+            13
+        }
+    }
+}
+
+// The call itself, where the twelve numbers are a reader's state and the others are places. The row is made here, where it is passed on: made by a function
+// of its own it would be copied once more.
+fn call_on(
+    input: &[u8],
+    memory: &mut [u8],
+    output: &mut [u8],
+    numbers: &[u64],
+    selection: &mut [u8; 39],
+    state: &mut [u64],
+    reader: Reader,
+) -> u64
+    requires { ⌜ Unpacking (now numbers) (now state) reader ⌝ }
+    ensures { λ r. ⌜
+        leftBy r (now (memory .exit)) (now (output .exit)) (now (selection .exit)) (now (state .exit))
+        ≡ stepped (now (input .entry)) (stateIn (now (memory .entry)) (now (output .entry)) (now (numbers .entry)) (now (selection .entry)) (now (state .entry)) reader)
+        (lentOf (now (selection .entry)) (getD (now (state .entry)) 11 0))
+        ⌝ }
+{
+    let tags = numbers.len() / 2;
+    let used = used_of(tags);
     let nowhere = Place { from: 0, size: 0 };
-    let mut places = [nowhere; 16];
+    let mut row = [nowhere; 16];
     let mut i = 0;
-    while i < tags {
+    while i < used {
         let from = numbers[2 * i];
         let size = numbers[2 * i + 1];
-        places[i] = Place {
+        row[i] = Place {
             from: from as u32,
             size: size as u32,
         };
         i += 1;
     }
-    places
-}
-
-// All twelve numbers are stored.
-fn store(state: &mut [u64], reader: Reader, length: usize, reason: u64, next: usize, count: usize)
-    requires { ⌜ lib.ListN.length (now state) ≡ 12 ⌝ }
-    ensures { λ _. ⌜ now (state .exit) ≡ packed reader length reason next count ⌝ }
-{
-    let tally = reader.tally;
-    state[0] = reader.cursor as u64;
-    state[1] = tally.good as u64;
-    state[2] = tally.error as u64;
-    state[3] = tally.header as u64;
-    state[4] = tally.kind as u64;
-    state[5] = tally.long as u64;
-    state[6] = tally.check as u64;
-    state[7] = tally.end as u64;
-    state[8] = length as u64;
-    state[9] = reason;
-    state[10] = next as u64;
-    state[11] = count as u64;
-}
-
-// What the call handed back is stored, and its number told.
-fn tell(state: &mut [u64], called: Called) -> u64
-    requires { ⌜ length (now state) ≡ 12 ⌝ }
-    ensures { λ r. ⌜
-        (r ≡ numberOf (called .outcome))
-        × (now (state .exit) ≡ packed (called .reader) (called .length) (reasonOf (called .outcome)) (called .next) (called .count))
-        ⌝ }
-{
-    let outcome = called.outcome;
-    let reason = reason_of(outcome);
-    store(
-        state,
-        called.reader,
-        called.length,
-        reason,
-        called.next,
-        called.count,
+    let next = state[10] as usize;
+    let count = state[11] as usize;
+    let called = call(
+        input,
+        memory,
+        output,
+        selection,
+        row,
+        tags,
+        reader,
+        next,
+        count,
     );
-    number_of(outcome)
+    tell(state, called)
 }
 
 // One call over a crate of tags, for any slices. `places` has two numbers for each tag: where it begins in the memory, and how many bytes it has. The twelve
@@ -176,21 +250,5 @@ pub extern "C" fn poldrisk_call(
     if !are_places(places) {
         return 22;
     }
-    let tags = places.len() / 2;
-    let used = used_of(tags);
-    let row = places_of(places, used);
-    let next = state[10] as usize;
-    let count = state[11] as usize;
-    let called = call(
-        input,
-        memory,
-        output,
-        selection,
-        row,
-        tags,
-        reader,
-        next,
-        count,
-    );
-    tell(state, called)
+    call_on(input, memory, output, places, selection, state, reader)
 }

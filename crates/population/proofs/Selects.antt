@@ -4,11 +4,11 @@ use borrow.Author.Tests.{eq-eqb, ne-eqb, lt-ltb, le-ltb}
 use lib.Dec.{ltb}
 use mathlib.Core.Bool.{Bool, true, false}
 use mathlib.Core.List.{List}
-use mathlib.Core.Path.{_≡_, refl, ap, sym, subst, _∙_}
+use mathlib.Core.Path.{_≡_, refl, ap, ap₂, sym, subst, _∙_}
 use native.Mathlib.Omega.{arith}
 use Rattle.frame.proofs.Picks.{pick-true, pick-false, by-test}
 use Rattle.frame.specs.Bytes.{pick, byte}
-use Rattle.population.proofs.Firsts.{NonePasses, first-none, first-cases, first-same}
+use Rattle.population.proofs.Firsts.{NonePasses, first-none, first-here, first-next, first-cases, first-same}
 use Rattle.population.proofs.Populations.{cut, cut-is}
 use Rattle.population.specs.Lowest.{selectedImage, selected, selectedAt, firstTag, lowest}
 use Rattle.population.specs.Matching.{matches}
@@ -49,6 +49,21 @@ module _ (memory : List ℕ) (tags : ℕ) (places : List Place) (s : List ℕ) (
   unfolding lowest
   lowest-none h =
       by-test (λ (r : Lowest). NoTag ≡ r) (ltb 16 tags) (λ _. refl) (λ _. sym (first-none (selectedAt memory s places) places start tags h))
+
+  -- of one tag, from the first on
+  module _ (one : tags ≡ 1) (from : start ≡ 0) where
+    starts : lowest memory tags places s start ≡ firstTag (selectedAt memory s places) places 0 (1 - 0)
+    starts = lowest-few (omega arith) ∙ ap₂ (λ (i n : ℕ). firstTag (selectedAt memory s places) places i (n - i)) from one
+
+    pub lowest-one : selectedAt memory s places 0 ≡ true → Tag 0 (placeAt places 0) ≡ lowest memory tags places s start
+    lowest-one h = sym (starts ∙ first-here (selectedAt memory s places) places 0 1 (omega arith) h)
+
+    pub lowest-not-one : selectedAt memory s places 0 ≡ false → NoTag ≡ lowest memory tags places s start
+    lowest-not-one h =
+        sym
+        (starts
+        ∙ first-next (selectedAt memory s places) places 0 1 (omega arith) h
+        ∙ first-none (selectedAt memory s places) places 1 1 (omega arith))
 
   pub lowest-cases : tags ≤ 16 → (P : Lowest → Type 0)
       → (NonePasses (selectedAt memory s places) start tags → P NoTag)

@@ -50,7 +50,7 @@ fn scan(memory: &[u8], tags: usize, places: [Place; 16], selection: &[u8], start
     Lowest::NoTag
 }
 
-// The same, and where no number is left, which is so at most calls, the scan is not begun.
+// The same. One tag is looked at without a scan: its place is then read where the caller stored it, and the array is not copied first.
 pub fn find_lowest(
     memory: &[u8],
     tags: usize,
@@ -60,8 +60,18 @@ pub fn find_lowest(
 ) -> Lowest
     ensures { λ r. ⌜ r ≡ lowest (now (memory .entry)) tags places (now (selection .entry)) start ⌝ }
 {
-    if tags <= start {
+    if tags != 1 {
+        return scan(memory, tags, places, selection, start);
+    }
+    if 0 < start {
         return Lowest::NoTag;
     }
-    scan(memory, tags, places, selection, start)
+    let first = places[0];
+    if is_selected(memory, first, selection) {
+        return Lowest::Tag {
+            number: 0,
+            place: first,
+        };
+    }
+    Lowest::NoTag
 }

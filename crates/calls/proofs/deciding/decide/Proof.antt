@@ -2,6 +2,8 @@
 use Rattle.calls.proofs.Jobs.{selection-judged, lowest-whole, job-whole, too-many-bad, past, bad-selection, bad-population, short, filled, hands-out, hands-none}
 use Rattle.frame.proofs.Tests.{holds, fails, not-holds, not-fails}
 use borrow.Author.Needs.{needs}
+use mathlib.Core.Path.{refl}
+use Rattle.population.proofs.Selects.{lowest-none}
 use Rattle.calls.proofs.deciding.decide.Statement.{statement}
 use Rattle.calls.proofs.deciding.decide.Tie as tie
 
@@ -74,6 +76,26 @@ returns-6 c =
     filled _ _ (few .before .if1 .left) (not-fails (chosen .if3 .left) (selection-judged bytes count (few .if2 .left) _ (judged .is-good-selection .ensures)))
     (not-fails (placed .if4 .left) (placed .before .is-good-population .ensures)) (roomy .if5 .left) (holds (c .if6 .taken) (c .before .is-full .ensures))
 
+find-job-requires : tie.Need-find-job-requires
+find-job-requires c κs = search needs
+
+returns-7 : tie.Need-returns-7
+returns-7 c =
+    let none = c .before in
+    let counted = none .before in
+    let roomy = counted .before .before in
+    let placed = roomy .before in
+    let chosen = placed .before .before in
+    let judged = chosen .before in
+    let few = judged .before .before .before in
+    let start = few .before .before .before .before .before .before in
+    let bytes = start .args .selection .now in
+    let count = start .args .count in
+    hands-none _ _ (few .before .if1 .left) (not-fails (chosen .if3 .left) (selection-judged bytes count (few .if2 .left) _ (judged .is-good-selection .ensures)))
+    (not-fails (placed .if4 .left) (placed .before .is-good-population .ensures)) (roomy .if5 .left) (fails (counted .if6 .left) (counted .before .is-full .ensures))
+    _ (lowest-none _ _ _ _ _ (none .if7 .taken)) refl
+    _ (job-whole bytes count (few .if2 .left) _ _ _ _ _ _ (c .find-job .ensures))
+
 find-lowest-requires : tie.Need-find-lowest-requires
 find-lowest-requires c κs = search needs
 
@@ -83,14 +105,14 @@ enum-known-waiting c = search needs
 enum-told : tie.Need-enum-told
 enum-told c = search needs
 
-find-job-requires : tie.Need-find-job-requires
-find-job-requires c κs = search needs
+find-job-requires-2 : tie.Need-find-job-requires-2
+find-job-requires-2 c κs = search needs
 
-returns-7 : tie.Need-returns-7
-returns-7 c =
+returns-8 : tie.Need-returns-8
+returns-8 c =
     let told = c .before in
     let low = told .before .before in
-    let counted = low .before in
+    let counted = low .before .before in
     let roomy = counted .before .before in
     let placed = roomy .before in
     let chosen = placed .before .before in
@@ -103,11 +125,11 @@ returns-7 c =
     (not-fails (placed .if4 .left) (placed .before .is-good-population .ensures)) (roomy .if5 .left) (fails (counted .if6 .left) (counted .before .is-full .ensures))
     _ (lowest-whole bytes count (few .if2 .left) _ _ _ _ _ (low .find-lowest .ensures)) _ _ (told .waiting .given .1)
 
-returns-8 : tie.Need-returns-8
-returns-8 c =
+returns-9 : tie.Need-returns-9
+returns-9 c =
     let told = c .before in
     let low = told .before .before in
-    let counted = low .before in
+    let counted = low .before .before in
     let roomy = counted .before .before in
     let placed = roomy .before in
     let chosen = placed .before .before in
@@ -119,7 +141,7 @@ returns-8 c =
     hands-none _ _ (few .before .if1 .left) (not-fails (chosen .if3 .left) (selection-judged bytes count (few .if2 .left) _ (judged .is-good-selection .ensures)))
     (not-fails (placed .if4 .left) (placed .before .is-good-population .ensures)) (roomy .if5 .left) (fails (counted .if6 .left) (counted .before .is-full .ensures))
     _ (lowest-whole bytes count (few .if2 .left) _ _ _ _ _ (low .find-lowest .ensures)) (told .enum-told .given .1)
-    _ (job-whole bytes count (few .if2 .left) _ _ _ _ _ _ (c .find-job .ensures))
+    _ (job-whole bytes count (few .if2 .left) _ _ _ _ _ _ (c .find-job2 .ensures))
 
 pub decide-spec : {M : Type 1} → statement M
 decide-spec =
@@ -137,9 +159,11 @@ decide-spec =
     returns-5
     is-full-requires
     returns-6
+    find-job-requires
+    returns-7
     find-lowest-requires
     enum-known-waiting
     enum-told
-    find-job-requires
-    returns-7
-    returns-8)
+    find-job-requires-2
+    returns-8
+    returns-9)
