@@ -1,7 +1,7 @@
 -- What a call answers, and what it leaves where it answers no frame.
 use Prim.Native.Nat.{ℕ, _+_, _%_}
 use lib.Dec.{eqb, leb, ltb}
-use lib.ListN.{length}
+use lib.ListN.{length, drop}
 use mathlib.Core.Bool.{Bool, true, false, not, _&&_, or-false}
 use mathlib.Core.List.{List, [], _∷_}
 use mathlib.Core.Logic.{_≢_}
@@ -11,10 +11,10 @@ use Rattle.reader.proofs.Counts.{one-more}
 use Rattle.reader.specs.Outcomes.{numberOf, reasonOf}
 use Rattle.reader.specs.Readers.{readerOf}
 use Rattle.reader.specs.declared.outcome.Outcome.{Outcome}
-use Rattle.reader.specs.declared.outcome.Outcome.the-variants.{Answered, AtEnd, Incomplete, Dropped, PastEnd, BadImage, ShortOutput, FullTally}
+use Rattle.reader.specs.declared.outcome.Outcome.the-variants.{Answered, AtEnd, Incomplete, Dropped, PastEnd, BadImage, ShortOutput, FullTally, FullList}
 use Rattle.calls.proofs.Steps.{step-cases}
 use Rattle.calls.specs.Claims.{AnswerNumbers, DropReasons, NothingChanges, DropTakesOneByte}
-use Rattle.calls.specs.Machine.{State, stateOf, Call, Step, codeAt, aimJob, commandJob, foundJob, findJob, handOut, waiting, decide, unchanged, dropped, told, selecting, missed, acted, aimed, carriedOut, inputOf, restOf, step}
+use Rattle.calls.specs.Machine.{State, stateOf, Call, Step, codeAt, aimJob, commandJob, foundJob, findJob, handOut, waiting, decide, unchanged, dropped, told, selecting, missed, acted, aimed, carriedOut, inputOf, restOf, step, isRefused, unless, stepUnless}
 use Rattle.calls.specs.Secrecy.{isNone}
 use Rattle.calls.specs.declared.deciding.Job.{Job}
 use Rattle.calls.specs.declared.deciding.Job.the-variants.{Stay, DropByte, Select, Miss, Aim}
@@ -28,7 +28,8 @@ use Rattle.frame.specs.declared.finding.Found.{Found}
 use Rattle.frame.specs.declared.finding.Found.the-variants.{End, Drop, Wait, Accept}
 use Rattle.frame.specs.declared.finding.Reason.{Reason}
 use Rattle.population.specs.Lowest.{lowest}
-use Rattle.population.specs.Selections.{taken}
+use Rattle.population.specs.Places.{goodPopulation}
+use Rattle.population.specs.Selections.{taken, goodSelection}
 use Rattle.population.specs.declared.lowest.Lowest.{Lowest}
 use Rattle.population.specs.declared.lowest.Lowest.the-variants.{NoTag, Tag}
 use Rattle.reader.specs.Tallies.{anyAtLimit, full, limit}
@@ -86,9 +87,101 @@ number-found input s (Accept pl) =
     by-test (λ (j : Job). numberFor input s j ≡ 0) (eqb (codeAt input (s .reader .cursor)) 0x0C) (λ _. number-select input s pl)
     (λ _. number-aim input s (s .reader .cursor) pl (lowest (s .memory) (s .tags) (s .places) (s .selection) 0))
 
+-- and of what the finding rules come to
+number-find : (input : List ℕ) (s : State)
+    → numberFor input s (findJob input (s .memory) (s .tags) (s .places) (s .selection) (s .reader .cursor)) ≡ numberOfFound (find commands (drop (s .reader .cursor) input))
+unfolding findJob
+number-find input s = number-found input s (find commands (drop (s .reader .cursor) input))
+
 pub answer-numbers : AnswerNumbers
 unfolding firstOf step decide waiting findJob numberOfFound carriedOut numberOf unchanged full anyAtLimit limit longestAnswer find sumRight lastRight checkOf plIn frameLength longestCommand restOf
 answer-numbers c s = simp (number-pick, number-hand-out, number-found, found-pick, pick-or, or-false)
+
+-- ---- the same with a full list behind 13
+
+unless-pick : (listFull test : Bool) (x y : Job) → unless listFull (pick test x y) ≡ pick test (unless listFull x) (unless listFull y)
+unfolding pick
+unless-pick listFull true x y = refl
+unless-pick listFull false x y = refl
+
+-- 10 to 13 stay
+same-either : (b : Bool) (x : Job) → pick b x x ≡ x
+unfolding pick
+same-either true x = refl
+same-either false x = refl
+
+unless-past : (listFull : Bool) → unless listFull (Stay PastEnd) ≡ Stay PastEnd
+unfolding unless isRefused numberOf pick
+unless-past listFull = same-either listFull (Stay PastEnd)
+
+unless-bad : (listFull : Bool) → unless listFull (Stay BadImage) ≡ Stay BadImage
+unfolding unless isRefused numberOf pick
+unless-bad listFull = same-either listFull (Stay BadImage)
+
+unless-short : (listFull : Bool) → unless listFull (Stay ShortOutput) ≡ Stay ShortOutput
+unfolding unless isRefused numberOf pick
+unless-short listFull = same-either listFull (Stay ShortOutput)
+
+unless-filled : (listFull : Bool) → unless listFull (Stay FullTally) ≡ Stay FullTally
+unfolding unless isRefused numberOf pick
+unless-filled listFull = same-either listFull (Stay FullTally)
+
+-- what comes behind the tests is no refusal
+module _ (input : List ℕ) (s : State) where
+  aim-goes-on : (cursor pl : ℕ) (low : Lowest) → isRefused (aimJob input cursor pl low) ≡ false
+  unfolding aimJob isRefused
+  aim-goes-on cursor pl NoTag = refl
+  aim-goes-on cursor pl (Tag n p) = refl
+
+  found-goes-on : (f : Found) → isRefused (foundJob input (s .memory) (s .tags) (s .places) (s .selection) (s .reader .cursor) f) ≡ false
+  unfolding foundJob commandJob isRefused numberOf
+  found-goes-on End = refl
+  found-goes-on Wait = refl
+  found-goes-on (Drop r) = refl
+  found-goes-on (Accept pl) =
+      by-test (λ (j : Job). isRefused j ≡ false) (eqb (codeAt input (s .reader .cursor)) 0x0C) (λ _. refl)
+      (λ _. aim-goes-on (s .reader .cursor) pl (lowest (s .memory) (s .tags) (s .places) (s .selection) 0))
+
+  hand-goes-on : (low : Lowest)
+      → isRefused (handOut (s .reader .cursor) (findJob input (s .memory) (s .tags) (s .places) (s .selection) (s .reader .cursor)) low) ≡ false
+  unfolding handOut findJob isRefused
+  hand-goes-on NoTag = found-goes-on (find commands (drop (s .reader .cursor) input))
+  hand-goes-on (Tag n p) = refl
+
+  unless-hand-out : (listFull : Bool) (low : Lowest)
+      → unless listFull (handOut (s .reader .cursor) (findJob input (s .memory) (s .tags) (s .places) (s .selection) (s .reader .cursor)) low)
+      ≡ pick listFull (Stay FullList) (handOut (s .reader .cursor) (findJob input (s .memory) (s .tags) (s .places) (s .selection) (s .reader .cursor)) low)
+  unfolding unless
+  unless-hand-out listFull low = rw (hand-goes-on low, pick-false)
+
+pub unless-numbers : (listFull : Bool) (c : Call) (s : State)
+    → numberOf (stepUnless listFull c s .outcome)
+    ≡ firstOf
+    ((ltb (length (inputOf c)) (s .reader .cursor), 10)
+    ∷ (not (goodSelection (s .selection)), 11)
+    ∷ (not (goodPopulation (s .memory) (s .tags) (s .places)), 11)
+    ∷ (ltb (length (s .output)) 136, 12)
+    ∷ (eqb (s .reader .tally .good) 4294967295, 13)
+    ∷ (eqb (s .reader .tally .error) 4294967295, 13)
+    ∷ (eqb (s .reader .tally .header) 4294967295, 13)
+    ∷ (eqb (s .reader .tally .kind) 4294967295, 13)
+    ∷ (eqb (s .reader .tally .long) 4294967295, 13)
+    ∷ (eqb (s .reader .tally .check) 4294967295, 13)
+    ∷ (eqb (s .reader .tally .end) 4294967295, 13)
+    ∷ (listFull, 14)
+    ∷ (not (isNone (lowest (s .memory) (s .tags) (s .places) (s .selection) (s .next))), 0)
+    ∷ (eqb (length (restOf c s)) 0, 1)
+    ∷ (not (eqb (byte (restOf c s) 0) 0xBB), 3)
+    ∷ (leb 2 (length (restOf c s)) && not (eqb (byte (restOf c s) 1) 0x00), 3)
+    ∷ (leb 5 (length (restOf c s)) && ltb 80 (number (restOf c s) 3), 3)
+    ∷ (ltb (length (restOf c s)) (7 + number (restOf c s) 3), 2)
+    ∷ (not (eqb (byte (restOf c s) (5 + number (restOf c s) 3)) (sum (part (restOf c s) 1 (4 + number (restOf c s) 3)) % 256)), 3)
+    ∷ (not (eqb (byte (restOf c s) (6 + number (restOf c s) 3)) 0x7E), 3)
+    ∷ [])
+    0
+unfolding firstOf stepUnless decide waiting numberOfFound carriedOut numberOf unchanged full anyAtLimit limit longestAnswer find sumRight lastRight checkOf plIn frameLength longestCommand restOf
+unless-numbers listFull c s =
+    simp (unless-pick, unless-past, unless-bad, unless-short, unless-filled, unless-hand-out, number-pick, number-hand-out, number-find, found-pick, pick-or, or-false)
 
 -- the table of the reasons, as the claim has it
 abbrev reasonBy : List ℕ → ℕ
@@ -112,6 +205,7 @@ no-reason PastEnd h = refl
 no-reason BadImage h = refl
 no-reason ShortOutput h = refl
 no-reason FullTally h = refl
+no-reason FullList h = refl
 
 -- a property of every step that is answered needs none of the cases
 module _ (c : Call) (s : State) (P : Step → Type 0) where

@@ -9,6 +9,7 @@ use mathlib.Core.Logic.{_⊎_, _≢_, inl, inr, ⊎-elim}
 use mathlib.Core.Path.{_≡_, refl, ap, sym, subst, _∙_}
 use native.Mathlib.Omega.{arith}
 use Rattle.reader.proofs.Counts.{total, one-answer-most, dropped-most}
+use Rattle.reader.specs.Readers.{freshReader}
 use Rattle.reader.specs.Outcomes.{numberOf}
 use Rattle.effects.specs.Secrecy.{Command}
 use Rattle.reader.specs.declared.outcome.Outcome.{Outcome}
@@ -233,6 +234,15 @@ run-potential input (suc k) s =
       run-potential input k u,
       inventories-append (acceptedBy (call input) s) (accepted (replicate k (call input)) u),
     )
+
+-- from a start with none to hand out, however many calls were made
+pub few-takes : (input : List ℕ) (s : State) → s .reader ≡ freshReader → waiting s ≡ NoTag → (k : ℕ)
+    → count takes (run (replicate k (call input)) s) ≤ length input + 15 * inventories (accepted (replicate k (call input)) s)
+unfolding potential bytesLeft tagsLeft
+few-takes input s fresh none k =
+    let cursor : s .reader .cursor ≡ 0 = ap (λ (r : Reader). r .cursor) fresh in
+    let left : tagsLeft (waiting s) ≡ 0 = ap tagsLeft none in
+    omega (arith, run-potential input k s)
 
 -- ---- what holds of the state at every call
 

@@ -4,19 +4,19 @@ use Prim.Native.Nat.{ℕ, _+_, _≤_, _<_}
 use borrow.Author.Tests.{eqb-true}
 use lib.ListN.{length, take, drop, getD, length-take}
 use lib.Seq.{getD-take, getD-drop}
-use mathlib.Core.Bool.{true}
+use mathlib.Core.Bool.{Bool, true}
 use mathlib.Core.List.{List}
 use mathlib.Core.Logic.{_≢_}
 use mathlib.Core.Path.{_≡_, refl, _∙_}
 use native.Mathlib.Omega.{arith}
 use Rattle.reader.specs.Outcomes.{numberOf}
 use Rattle.reader.specs.declared.outcome.Outcome.{Outcome}
-use Rattle.reader.specs.declared.outcome.Outcome.the-variants.{Answered}
+use Rattle.reader.specs.declared.outcome.Outcome.the-variants.{Answered, FullList}
 use Rattle.calls.proofs.Answering.{selecting-answers}
 use Rattle.calls.proofs.Doing.{in-front}
 use Rattle.calls.proofs.Steps.{handOutAt, commandAt, job-cases}
 use Rattle.calls.specs.Calls.{selectionIn, Lent, withSelected, lentAfter, lentBy, LentSelection}
-use Rattle.calls.specs.Machine.{State, call, Step, parametersAt, unchanged, dropped, told, selecting, missed, actFor, acted, aimed, carriedOut, inputOf, step, counted}
+use Rattle.calls.specs.Machine.{State, call, Step, parametersAt, unchanged, dropped, told, selecting, missed, actFor, acted, aimed, decide, carriedOut, inputOf, counted, isRefused, unless, stepUnless}
 use Rattle.calls.specs.declared.deciding.Aimed.{Aimed}
 use Rattle.calls.specs.declared.deciding.Job.{Job}
 use Rattle.frame.proofs.Picks.{pick-true, pick-false, by-test}
@@ -56,15 +56,23 @@ module _ (input : List ℕ) (s : State) (l : Lent) (P : Step → Lent → Type 0
   unfolding missed told
   misses e behind = answers _ l refl refl
 
-  pub call-cases : P (step (call input) s) (lentBy input s l)
-  unfolding step inputOf lentBy lentAfter carriedOut
-  call-cases =
-      job-cases input s (λ (j : Job). P (carriedOut input s j) (lentAfter input (s .reader .cursor) l j)) stays
+  abbrev Comes : Job → Type 0
+  Comes j = P (carriedOut input s j) (lentAfter input (s .reader .cursor) l j)
+
+  decided : Comes (decide input s)
+  unfolding lentAfter carriedOut
+  decided =
+      job-cases input s Comes stays
       (λ t n p e. aims (handOutAt s n p))
       (λ t none r found some. drops r)
       (λ pl a is. selects (parametersAt input (s .reader .cursor) pl) _)
       (λ pl a other none. misses _ _)
       (λ pl a other n p e. aims (commandAt input s pl n p))
+
+  pub call-cases : (listFull : Bool) → P (stepUnless listFull (call input) s) (lentBy listFull input s l)
+  unfolding stepUnless unless inputOf lentBy lentAfter carriedOut numberOf
+  call-cases listFull =
+      by-test Comes listFull (λ _. by-test Comes (isRefused (decide input s)) (λ _. decided) (λ _. stays FullList (omega arith) (omega arith))) (λ _. decided)
 
 -- ---- what stands in the lent bytes
 
@@ -85,12 +93,16 @@ mask-small input cursor pl are h =
     in
     taken-short p (omega (arith, same, are (cursor + 5 + 5))) h
 
-pub lent-selection : LentSelection
-unfolding step inputOf lentBy lentAfter carriedOut unchanged dropped selecting missed told aimed acted withSelected
-lent-selection input s l are room same =
-    job-cases input s
-    (λ (j : Job).
-    selectionIn (lentAfter input (s .reader .cursor) l j .bytes) (lentAfter input (s .reader .cursor) l j .count) ≡ carriedOut input s j .next .selection)
+-- a job leaves in front what it leaves as the selection
+abbrev InFront : List ℕ → State → Lent → Job → Type 0
+InFront input s l j =
+    selectionIn (lentAfter input (s .reader .cursor) l j .bytes) (lentAfter input (s .reader .cursor) l j .count) ≡ carriedOut input s j .next .selection
+
+decided-in-front : (input : List ℕ) (s : State) (l : Lent) → ((i : ℕ) → byte input i < 256) → length (l .bytes) ≡ 39 → selectionIn (l .bytes) (l .count) ≡ s .selection
+    → InFront input s l (decide input s)
+unfolding lentAfter carriedOut unchanged dropped selecting missed told aimed acted withSelected
+decided-in-front input s l are room same =
+    job-cases input s (InFront input s l)
     (λ o m n. same)
     (λ t n p e. same)
     (λ t none r found some. same)
@@ -100,3 +112,9 @@ lent-selection input s l are room same =
     (λ h. simp (h, pick-false) same))
     (λ pl a other none. same)
     (λ pl a other n p e. same)
+
+pub lent-selection : LentSelection
+unfolding stepUnless unless inputOf lentBy lentAfter carriedOut unchanged
+lent-selection listFull input s l are room same =
+    let decided = decided-in-front input s l are room same in
+    by-test (InFront input s l) listFull (λ _. by-test (InFront input s l) (isRefused (decide input s)) (λ _. decided) (λ _. same)) (λ _. decided)

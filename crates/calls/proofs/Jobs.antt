@@ -8,7 +8,7 @@ use mathlib.Core.List.{List, _∷_}
 use mathlib.Core.Path.{_≡_, refl, ap, sym, _∙_}
 use native.Mathlib.Nat.{add-assoc}
 use native.Mathlib.Omega.{arith}
-use Rattle.reader.specs.declared.outcome.Outcome.the-variants.{AtEnd, Incomplete, PastEnd, BadImage, ShortOutput, FullTally}
+use Rattle.reader.specs.declared.outcome.Outcome.the-variants.{AtEnd, Incomplete, PastEnd, BadImage, ShortOutput, FullTally, FullList}
 use Rattle.calls.specs.Calls.{selectionIn}
 use Rattle.calls.specs.Machine.{State, codeAt, parametersAt, errorWithout, aimJob, commandJob, foundJob, findJob, handOut, waiting, decide}
 use Rattle.calls.specs.declared.deciding.Aimed.{Aimed}

@@ -14,6 +14,7 @@ pub mod Handing
 pub mod Hiding
 pub mod Instances
 pub mod Jobs
+pub mod Listing
 pub mod Lowests
 pub mod Secrets
 pub mod Staying

@@ -15,18 +15,20 @@ use Rattle.reader.specs.Outcomes.{numberOf, reasonOf}
 use Rattle.reader.specs.Readers.{readerOf}
 use Rattle.effects.specs.Secrecy.{passwordsAt, Command, carriesNone, noneCarries}
 use Rattle.reader.specs.declared.outcome.Outcome.{Outcome}
+use Rattle.reader.specs.declared.outcome.Outcome.the-variants.{FullList}
 use Rattle.calls.proofs.Choosing.{Blind, good-blind}
+use Rattle.calls.proofs.Listing.{step-with-room}
 use Rattle.calls.proofs.Hiding.{Secret, AlikeTag, Silent, ActedAlike, TagAlike, Both, Quiet, lowest-alike, acts, act-keeps}
 use Rattle.calls.proofs.Lowests.{TheLowest}
 use Rattle.calls.proofs.Steps.{Tested, Accepts, lowestTag, handOutAt, commandAt, errorAt, found-tag, job-cases}
 use Rattle.calls.specs.Claims.{Demand3, Premises, withMemory}
-use Rattle.calls.specs.Machine.{State, stateOf, Call, call, Step, codeAt, parametersAt, commandJob, aimJob, foundJob, findJob, handOut, waiting, decide, unchanged, dropped, told, selecting, missed, nextAfter, imageFor, actFor, acted, aimed, carriedOut, inputOf, restOf, step, run, counted}
-use Rattle.calls.specs.Secrecy.{isNone, acceptedBy, accepted, MayDiffer, PasswordsStay, SameCall, Throughout}
+use Rattle.calls.specs.Machine.{State, stateOf, Call, call, Step, codeAt, parametersAt, commandJob, aimJob, foundJob, findJob, handOut, waiting, decide, unchanged, dropped, told, selecting, missed, nextAfter, imageFor, actFor, acted, aimed, carriedOut, inputOf, restOf, step, run, counted, isRefused, unless, stepUnless}
+use Rattle.calls.specs.Secrecy.{isNone, acceptedBy, accepted, MayDiffer, PasswordsStay, SameCall, Throughout, Outside}
 use Rattle.calls.specs.declared.deciding.Aimed.{Aimed}
 use Rattle.calls.specs.declared.deciding.Job.{Job}
 use Rattle.calls.specs.declared.deciding.Job.the-variants.{Stay, DropByte, Select, Miss, Aim}
 use Rattle.frame.proofs.Accepting.{Accepted}
-use Rattle.frame.proofs.Picks.{pick-true, pick-false}
+use Rattle.frame.proofs.Picks.{by-test, pick-true, pick-false}
 use Rattle.frame.proofs.Tests.{either, and-left}
 use Rattle.frame.specs.Bytes.{pick, all, byte, part}
 use Rattle.frame.specs.Finding.{find}
@@ -64,26 +66,26 @@ module _ (input : List ℕ) (cursor : ℕ) where
 
 module _ (tags : ℕ) (places : List Place) (differs : ℕ → Bool) (a b : List ℕ) where
   -- the state with this crate
-  abbrev stateIn : List ℕ → List ℕ → List ℕ → Reader → ℕ → State
+  abbrev pub stateIn : List ℕ → List ℕ → List ℕ → Reader → ℕ → State
   stateIn memory selection output reader next = stateOf memory places tags selection output reader next
 
   -- a state is such a state
-  abbrev Stays : State → Type 0
+  abbrev pub Stays : State → Type 0
   Stays u = u ≡ stateIn (u .memory) (u .selection) (u .output) (u .reader) (u .next)
 
-  record Alike (x y : Step) : Type 0 where
-    outcome : x .outcome ≡ y .outcome
-    length : x .length ≡ y .length
-    selection : x .next .selection ≡ y .next .selection
-    output : x .next .output ≡ y .next .output
-    reader : x .next .reader ≡ y .next .reader
-    next : x .next .next ≡ y .next .next
-    first-stays : Stays (x .next)
-    second-stays : Stays (y .next)
-    memories : Both tags places differs a b (x .next .memory) (y .next .memory)
+  pub record Alike (x y : Step) : Type 0 where
+    pub outcome : x .outcome ≡ y .outcome
+    pub length : x .length ≡ y .length
+    pub selection : x .next .selection ≡ y .next .selection
+    pub output : x .next .output ≡ y .next .output
+    pub reader : x .next .reader ≡ y .next .reader
+    pub next : x .next .next ≡ y .next .next
+    pub first-stays : Stays (x .next)
+    pub second-stays : Stays (y .next)
+    pub memories : Both tags places differs a b (x .next .memory) (y .next .memory)
 
   -- no command of a list carries a password of a tag that differs
-  QuietRun : List Command → Type 0
+  unfoldable pub QuietRun : List Command → Type 0
   QuietRun ms = (i : ℕ) → i < tags → differs i ≡ true → noneCarries (imageAt a (placeAt places i)) (imageAt b (placeAt places i)) ms ≡ true
 
   module _ (m n selection output : List ℕ) (reader : Reader) (next : ℕ) (r : Both tags places differs a b m n) where
@@ -217,19 +219,42 @@ module _ (tags : ℕ) (places : List Place) (differs : ℕ → Bool) (a b : List
     step-alike (call input) quiet =
         subst (λ (j : Job). Alike (carriedOut input s (decide input s)) (carriedOut input t j)) (sym (same-job input)) (job-alike input quiet)
 
+    -- a list of failures that is full is so in both
+    stay-alike : (input : List ℕ) (job : Job) → isRefused job ≡ true → Alike (carriedOut input s job) (carriedOut input t job)
+    unfolding isRefused carriedOut
+    stay-alike input (Stay o) h = unchanged-alike o
+    stay-alike input (DropByte why) h = absurd (true≢false (sym h))
+    stay-alike input (Select pl) h = absurd (true≢false (sym h))
+    stay-alike input (Miss e pl) h = absurd (true≢false (sym h))
+    stay-alike input (Aim g) h = absurd (true≢false (sym h))
+
+    full-alike : (input : List ℕ) → Alike (carriedOut input s (unless true (decide input s))) (carriedOut input t (unless true (decide input s)))
+    unfolding unless pick carriedOut
+    full-alike input =
+        by-test (λ (j : Job). Alike (carriedOut input s j) (carriedOut input t j)) (isRefused (decide input s)) (λ h. stay-alike input (decide input s) h)
+        (λ h. unchanged-alike FullList)
+
+    pub unless-alike : (full : Bool) (c : Call) → QuietRun (pick full [] (acceptedBy c s)) → Alike (stepUnless full c s) (stepUnless full c t)
+    unfolding stepUnless inputOf pick
+    unless-alike true (call input) quiet =
+        subst (λ (j : Job). Alike (carriedOut input s (unless true (decide input s))) (carriedOut input t (unless true j))) (sym (same-job input)) (full-alike input)
+    unless-alike false (call input) quiet =
+        subst (λ (x : Step). Alike x (stepUnless false (call input) t)) (sym (step-with-room (call input) s))
+        (subst (λ (y : Step). Alike (step (call input) s) y) (sym (step-with-room (call input) t)) (step-alike (call input) quiet))
+
   -- ---- the run
 
-  quiet-parts : (xs ys : List Command) → QuietRun (xs ++ ys) → QuietRun xs × QuietRun ys
+  pub quiet-parts : (xs ys : List Command) → QuietRun (xs ++ ys) → QuietRun xs × QuietRun ys
   unfolding QuietRun
   quiet-parts xs ys quiet = (λ i h d. none-append _ _ xs ys (quiet i h d) .0, λ i h d. none-append _ _ xs ys (quiet i h d) .1)
 
-  kept-tag : (x y : List ℕ) (i : ℕ) → differs i ≡ true → TagAlike tags places differs a b i x y
+  pub kept-tag : (x y : List ℕ) (i : ℕ) → differs i ≡ true → TagAlike tags places differs a b i x y
       → PasswordsStay (imageAt a (placeAt places i)) (imageAt b (placeAt places i)) x y
   kept-tag x y i d =
       ⊎-elim (λ e. absurd (true≢false (sym d ∙ e .0)))
       (λ e. record { first-kept = e .1 .pair .first .bytes; second-kept = e .1 .pair .second .bytes; same-elsewhere = e .1 .pair .elsewhere })
 
-  same-tag : (x y : List ℕ) (i : ℕ) → differs i ≡ false → TagAlike tags places differs a b i x y → x ≡ y
+  pub same-tag : (x y : List ℕ) (i : ℕ) → differs i ≡ false → TagAlike tags places differs a b i x y → x ≡ y
   same-tag x y i d = ⊎-elim (λ e. e .1) (λ e. absurd (true≢false (sym (e .0) ∙ d)))
 
   same-call : (x y : Step) → Alike x y → SameCall tags places differs a b x y
@@ -275,22 +300,27 @@ module _ (tags : ℕ) (places : List Place) (differs : ℕ → Bool) (a b : List
 
 -- ---- the start
 
-pub demand3 : Demand3
-unfolding QuietRun placeAt imageAt passwordsAt
-demand3 s n differs calls pre =
-    let first = population-facts (s .memory) (s .tags) (s .places) (pre .first-good) in
-    let second = population-facts n (s .tags) (s .places) (pre .second-good) in
-    same-runs (s .tags) (s .places) differs (s .memory) n calls (s .memory) n (s .selection) (s .output) (s .reader) (s .next)
+-- the two memories at the start, whatever commands are accepted
+pub both-at-start : (s : State) (n : List ℕ) (differs : ℕ → Bool) (first-commands second-commands : List Command)
+    → goodPopulation (s .memory) (s .tags) (s .places) ≡ true → goodPopulation n (s .tags) (s .places) ≡ true → length (s .memory) ≡ length n
+    → ((i : ℕ) → i < s .tags → differs i ≡ true → MayDiffer (imageAt (s .memory) (placeAt (s .places) i)) (imageAt n (placeAt (s .places) i)) first-commands second-commands)
+    → ((i : ℕ) → i < s .tags → differs i ≡ false → imageAt (s .memory) (placeAt (s .places) i) ≡ imageAt n (placeAt (s .places) i))
+    → ((k : ℕ) → Outside (s .tags) (s .places) k → byte (s .memory) k ≡ byte n k)
+    → Both (s .tags) (s .places) differs (s .memory) n (s .memory) n
+unfolding placeAt imageAt passwordsAt
+both-at-start s n differs first-commands second-commands first-good second-good same-size differing others outside =
+    let first = population-facts (s .memory) (s .tags) (s .places) first-good in
+    let second = population-facts n (s .tags) (s .places) second-good in
     record {
       first = first;
       second = second;
       related =
           record {
-            same-length = pre .same-size;
+            same-length = same-size;
             each = λ i h.
                 either (differs i)
                 (λ d.
-                let may = pre .differing i h d in
+                let may = differing i h d in
                 inr (
                   d,
                   record {
@@ -304,8 +334,14 @@ demand3 s n differs calls pre =
                         };
                   },
                 ))
-                (λ d. inl (d, pre .others i h d));
-            outside = pre .outside;
+                (λ d. inl (d, others i h d));
+            outside = outside;
           };
     }
+
+pub demand3 : Demand3
+unfolding QuietRun placeAt imageAt
+demand3 s n differs calls pre =
+    same-runs (s .tags) (s .places) differs (s .memory) n calls (s .memory) n (s .selection) (s .output) (s .reader) (s .next)
+    (both-at-start s n differs _ _ (pre .first-good) (pre .second-good) (pre .same-size) (pre .differing) (pre .others) (pre .outside))
     (λ i h d. pre .differing i h d .first-run)

@@ -3,17 +3,17 @@ use Prim.Native.Nat.{ℕ, _+_, _≤_, _<_}
 use borrow.Author.Tests.{ltb-false, le-ltb, not-false, eqb-true, eqb-false}
 use lib.Dec.{eqb, ltb}
 use lib.ListN.{length, drop, length-drop}
-use mathlib.Core.Bool.{true, false, not}
+use mathlib.Core.Bool.{Bool, true, false, not}
 use mathlib.Core.List.{List, []}
 use mathlib.Core.Logic.{_≢_}
 use mathlib.Core.Path.{_≡_, refl, ap, sym, subst, _∙_}
 use native.Mathlib.Omega.{arith}
 use Rattle.reader.specs.Outcomes.{numberOf}
 use Rattle.reader.specs.declared.outcome.Outcome.{Outcome}
-use Rattle.reader.specs.declared.outcome.Outcome.the-variants.{AtEnd, Incomplete, PastEnd, BadImage, ShortOutput, FullTally}
+use Rattle.reader.specs.declared.outcome.Outcome.the-variants.{AtEnd, Incomplete, PastEnd, BadImage, ShortOutput, FullTally, FullList}
 use Rattle.calls.proofs.Lowests.{TheLowest, the-lowest, lowest-inside, lowest-good}
 use Rattle.calls.specs.Calls.{Lent, lentAfter, lentBy, Ready, Framed, Aimable, Doable}
-use Rattle.calls.specs.Machine.{State, Call, call, Step, codeAt, parametersAt, errorWithout, aimJob, commandJob, foundJob, findJob, handOut, waiting, decide, unchanged, dropped, selecting, missed, aimed, carriedOut, inputOf, restOf, step}
+use Rattle.calls.specs.Machine.{State, Call, call, Step, codeAt, parametersAt, errorWithout, aimJob, commandJob, foundJob, findJob, handOut, waiting, decide, unchanged, dropped, selecting, missed, aimed, carriedOut, inputOf, restOf, step, isRefused, unless, stepUnless}
 use Rattle.calls.specs.declared.deciding.Aimed.{Aimed}
 use Rattle.calls.specs.declared.deciding.Job.{Job}
 use Rattle.calls.specs.declared.deciding.Job.the-variants.{Stay, DropByte, Select, Miss, Aim}
@@ -182,16 +182,23 @@ module _ (input : List ℕ) (s : State) where
       (λ pl a code none. framed pl a)
       (λ pl a code n p e. aimable (a .tested) 0 (commandAt input s pl n p) e (omega (arith, frame-inside pl a)))
 
-  pub decided-doable : (job : Job) → job ≡ decide input s → Doable input (s .memory) (s .output) (s .reader) job
-  decided-doable job e = subst (Doable input (s .memory) (s .output) (s .reader)) (sym e) doable
+  unless-doable : (listFull : Bool) → Doable input (s .memory) (s .output) (s .reader) (unless listFull (decide input s))
+  unfolding unless
+  unless-doable listFull =
+      by-test (Doable input (s .memory) (s .output) (s .reader)) listFull
+      (λ _. by-test (Doable input (s .memory) (s .output) (s .reader)) (isRefused (decide input s)) (λ _. doable) (λ _. tt)) (λ _. doable)
 
-  pub called : (x : Step) (job : Job) → x ≡ carriedOut input s job → job ≡ decide input s → x ≡ step (call input) s
-  unfolding step inputOf
-  called x job done e = done ∙ ap (carriedOut input s) e
+  pub decided-doable : (listFull : Bool) (job : Job) → job ≡ unless listFull (decide input s) → Doable input (s .memory) (s .output) (s .reader) job
+  decided-doable listFull job e = subst (Doable input (s .memory) (s .output) (s .reader)) (sym e) (unless-doable listFull)
 
-  pub lent-called : (l x : Lent) (job : Job) → x ≡ lentAfter input (s .reader .cursor) l job → job ≡ decide input s → x ≡ lentBy input s l
+  pub called : (listFull : Bool) (x : Step) (job : Job) → x ≡ carriedOut input s job → job ≡ unless listFull (decide input s) → x ≡ stepUnless listFull (call input) s
+  unfolding stepUnless inputOf
+  called listFull x job done e = done ∙ ap (carriedOut input s) e
+
+  pub lent-called : (listFull : Bool) (l x : Lent) (job : Job) → x ≡ lentAfter input (s .reader .cursor) l job → job ≡ unless listFull (decide input s)
+      → x ≡ lentBy listFull input s l
   unfolding lentBy
-  lent-called l x job done e = done ∙ ap (lentAfter input (s .reader .cursor) l) e
+  lent-called listFull l x job done e = done ∙ ap (lentAfter input (s .reader .cursor) l) e
 
 -- ---- the step
 

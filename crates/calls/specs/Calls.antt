@@ -1,12 +1,12 @@
 -- The step of a call as the code hands it back: memory, selection and output in the lent slices, the rest by value.
 use Prim.Native.Nat.{ℕ, _+_, _≤_, _<_}
-use mathlib.Core.Bool.{true}
+use mathlib.Core.Bool.{Bool, true}
 use mathlib.Core.List.{List}
 use mathlib.Core.Path.{_≡_}
 use lib.Dec.{leb}
 use lib.ListN.{length, take, replicate}
 use lib.Seq.{sets}
-use Rattle.calls.specs.Machine.{State, stateOf, call, Step, parametersAt, decide, plainError, selectTaken, counted, step}
+use Rattle.calls.specs.Machine.{State, stateOf, call, Step, parametersAt, decide, unless, plainError, selectTaken, counted, stepUnless}
 use Rattle.calls.specs.declared.calling.Called.{Called}
 use Rattle.calls.specs.declared.deciding.Aimed.{Aimed}
 use Rattle.calls.specs.declared.deciding.Job.{Job}
@@ -57,17 +57,17 @@ lentAfter input cursor l (Select pl) = withSelected (parametersAt input cursor p
 lentAfter input cursor l (Miss e pl) = l
 lentAfter input cursor l (Aim a) = l
 
-unfoldable pub lentBy : List ℕ → State → Lent → Lent
-lentBy input s l = lentAfter input (s .reader .cursor) l (decide input s)
+unfoldable pub lentBy : Bool → List ℕ → State → Lent → Lent
+lentBy listFull input s l = lentAfter input (s .reader .cursor) l (unless listFull (decide input s))
 
 -- What stands in front of them is the machine's selection after a call as before it, for any input of bytes. It is proved in proofs/Callers.antt.
 abbrev pub LentSelection : Type 0
 LentSelection =
-    (input : List ℕ) (s : State) (l : Lent)
+    (listFull : Bool) (input : List ℕ) (s : State) (l : Lent)
     → ((i : ℕ) → byte input i < 256)
     → length (l .bytes) ≡ 39
     → selectionIn (l .bytes) (l .count) ≡ s .selection
-    → selectionIn (lentBy input s l .bytes) (lentBy input s l .count) ≡ step (call input) s .next .selection
+    → selectionIn (lentBy listFull input s l .bytes) (lentBy listFull input s l .count) ≡ stepUnless listFull (call input) s .next .selection
 
 -- ---- in parts
 

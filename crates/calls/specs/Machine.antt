@@ -1,13 +1,14 @@
 -- Request P5 over document 01, "Demand 2's machine": a state, one step for each call, and the run of a list of calls. A step is decided first, test by
 -- test, and then carried out.
 use Prim.Native.Nat.{ℕ, _+_, _-_, _*_, _/_}
-use mathlib.Core.Bool.{not}
+use mathlib.Core.Bool.{Bool, false, not}
 use mathlib.Core.List.{List, [], _∷_}
-use lib.Dec.{eqb, ltb}
+use lib.Dec.{eqb, leb, ltb}
 use lib.ListN.{length, drop}
+use Rattle.reader.specs.Outcomes.{numberOf}
 use Rattle.reader.specs.Readers.{readerOf}
 use Rattle.reader.specs.declared.outcome.Outcome.{Outcome}
-use Rattle.reader.specs.declared.outcome.Outcome.the-variants.{Answered, AtEnd, Incomplete, Dropped, PastEnd, BadImage, ShortOutput, FullTally}
+use Rattle.reader.specs.declared.outcome.Outcome.the-variants.{Answered, AtEnd, Incomplete, Dropped, PastEnd, BadImage, ShortOutput, FullTally, FullList}
 use Rattle.calls.specs.declared.deciding.Aimed.{Aimed}
 use Rattle.calls.specs.declared.deciding.Job.{Job}
 use Rattle.calls.specs.declared.deciding.Job.the-variants.{Stay, DropByte, Select, Miss, Aim}
@@ -207,6 +208,20 @@ restOf c s = drop (s .reader .cursor) (inputOf c)
 
 unfoldable pub step : Call → State → Step
 step c s = carriedOut (inputOf c) s (decide (inputOf c) s)
+
+-- P12: "With the list full every call .. answers 14, tested after 13": a call that none of 10 to 13 refuses
+unfoldable pub isRefused : Job → Bool
+isRefused (Stay outcome) = leb 10 (numberOf outcome)
+isRefused (DropByte r) = false
+isRefused (Select pl) = false
+isRefused (Miss e pl) = false
+isRefused (Aim a) = false
+
+unfoldable pub unless : Bool → Job → Job
+unless full job = pick full (pick (isRefused job) job (Stay FullList)) job
+
+unfoldable pub stepUnless : Bool → Call → State → Step
+stepUnless full c s = carriedOut (inputOf c) s (unless full (decide (inputOf c) s))
 
 -- Each answer 0 or 3 lowers this, so that it bounds the calls that take something: a byte that is left; 15 for each inventory that may still come, which has seven
 -- bytes, and answers with one tag itself; and the tags that may still be handed out.

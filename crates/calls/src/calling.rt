@@ -20,7 +20,7 @@ ghost use lib.Dec.{eqb};
 ghost use lib.ListN.{length};
 ghost use Rattle.reader.specs.Readers.{readerOf};
 ghost use Rattle.calls.specs.Calls.{selectionIn, stepOf, lentOf, lentAfter, lentBy, Ready, Doable, AimDone, Told, Selected};
-ghost use Rattle.calls.specs.Machine.{call as aCall, stateOf, carriedOut, step, plainError};
+ghost use Rattle.calls.specs.Machine.{call as aCall, stateOf, carriedOut, stepUnless, plainError};
 ghost use Rattle.execution.specs.Execution.{FrameWritten};
 ghost use Rattle.frame.specs.Bytes.{pick};
 ghost use Rattle.frame.specs.Frames.{frameOf};
@@ -246,13 +246,14 @@ pub fn call(
     reader: Reader,
     next: usize,
     count: usize,
+    full: bool,
 ) -> Called
     ensures { λ r. ⌜
         (stepOf r (now (memory .exit)) places tags (now (selection .exit)) (now (output .exit))
-        ≡ step (aCall (now (input .entry)))
+        ≡ stepUnless full (aCall (now (input .entry)))
         (stateOf (now (memory .entry)) places tags (selectionIn (now (selection .entry)) count) (now (output .entry)) reader next))
         × (lentOf (now (selection .exit)) (r .count)
-        ≡ lentBy (now (input .entry))
+        ≡ lentBy full (now (input .entry))
         (stateOf (now (memory .entry)) places tags (selectionIn (now (selection .entry)) count) (now (output .entry)) reader next)
         (lentOf (now (selection .entry)) count))
         ⌝ }
@@ -267,6 +268,7 @@ pub fn call(
         reader,
         next,
         count,
+        full,
     );
     carry_out(input, memory, output, selection, reader, next, count, job)
 }

@@ -16,7 +16,7 @@ ghost use mathlib.Core.Path.{_≡_};
 ghost use Prim.Native.Nat.{_+_, _≤_};
 ghost use lib.ListN.{length};
 ghost use Rattle.calls.specs.Calls.{selectionIn};
-ghost use Rattle.calls.specs.Machine.{stateOf, commandJob, findJob, decide};
+ghost use Rattle.calls.specs.Machine.{stateOf, commandJob, findJob, decide, unless};
 
 // A command for one tag: its `pl` parameter bytes stand from `first` on, and the cursor goes to `behind`.
 pub struct Aimed {
@@ -102,7 +102,7 @@ fn find_job(
     }
 }
 
-// For any input, memory, output, selection, places and reader.
+// For any input, memory, output, selection, places and reader. `full` says that no record of a failure has room: then whatever is not refused before is.
 pub fn decide(
     input: &[u8],
     memory: &[u8],
@@ -113,11 +113,13 @@ pub fn decide(
     reader: Reader,
     next: usize,
     count: usize,
+    full: bool,
 ) -> Job
     ensures { λ r. ⌜
         r
-        ≡ decide (now (input .entry))
-        (stateOf (now (memory .entry)) places tags (selectionIn (now (selection .entry)) count) (now (output .entry)) reader next)
+        ≡ unless full
+        (decide (now (input .entry))
+        (stateOf (now (memory .entry)) places tags (selectionIn (now (selection .entry)) count) (now (output .entry)) reader next))
         ⌝ }
 {
     let cursor = reader.cursor;
@@ -141,6 +143,9 @@ pub fn decide(
     }
     if tally.is_full() {
         return Job::Stay(Outcome::FullTally);
+    }
+    if full {
+        return Job::Stay(Outcome::FullList);
     }
     // No tag is left to hand out, as at most calls.
     if tags <= next {

@@ -2,7 +2,7 @@
 use Prim.Native.Nat.{ℕ}
 use Rattle.frame.specs.Finding.{reasonNumber}
 use Rattle.reader.specs.declared.outcome.Outcome.{Outcome}
-use Rattle.reader.specs.declared.outcome.Outcome.the-variants.{Answered, AtEnd, Incomplete, Dropped, PastEnd, BadImage, ShortOutput, FullTally}
+use Rattle.reader.specs.declared.outcome.Outcome.the-variants.{Answered, AtEnd, Incomplete, Dropped, PastEnd, BadImage, ShortOutput, FullTally, FullList}
 
 -- The table of the answer numbers.
 unfoldable pub numberOf : Outcome → ℕ
@@ -14,6 +14,7 @@ numberOf PastEnd = 10
 numberOf BadImage = 11
 numberOf ShortOutput = 12
 numberOf FullTally = 13
+numberOf FullList = 14
 
 -- "Answer 3 now carries a reason"; 0 where no byte was dropped
 unfoldable pub reasonOf : Outcome → ℕ
@@ -25,3 +26,4 @@ reasonOf PastEnd = 0
 reasonOf BadImage = 0
 reasonOf ShortOutput = 0
 reasonOf FullTally = 0
+reasonOf FullList = 0

@@ -21,6 +21,8 @@ pub enum Outcome {
     ShortOutput,
     // 13: a tally count is at its limit.
     FullTally,
+    // 14: the list of failures is full.
+    FullList,
 }
 
 pub fn number_of(outcome: Outcome) -> u64
@@ -35,6 +37,7 @@ pub fn number_of(outcome: Outcome) -> u64
         Outcome::BadImage => 11,
         Outcome::ShortOutput => 12,
         Outcome::FullTally => 13,
+        Outcome::FullList => 14,
     }
 }
 
@@ -51,5 +54,6 @@ pub fn reason_of(outcome: Outcome) -> u64
         Outcome::BadImage => 0,
         Outcome::ShortOutput => 0,
         Outcome::FullTally => 0,
+        Outcome::FullList => 0,
     }
 }

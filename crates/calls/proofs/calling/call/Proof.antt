@@ -8,7 +8,7 @@ decide-requires : tie.Need-decide-requires
 decide-requires c κs = search needs
 
 carry-out-requires : tie.Need-carry-out-requires
-carry-out-requires c κs = decided-doable _ _ _ (c .before .before .before .decide .ensures)
+carry-out-requires c κs = decided-doable _ _ _ _ (c .before .before .before .decide .ensures)
 
 same-length : tie.Need-same-length
 same-length c = search needs
@@ -21,8 +21,8 @@ returns c =
     let done = c .before .before .before .before in
     let decided = done .before .before .before .before in
     let start = decided .before .before .before .before .before .before .before in (
-      called _ _ _ _ (done .carry-out .ensures .0 (start .args .places) (start .args .tags)) (decided .decide .ensures),
-      lent-called _ _ _ _ _ (done .carry-out .ensures .1) (decided .decide .ensures),
+      called _ _ _ _ _ (done .carry-out .ensures .0 (start .args .places) (start .args .tags)) (decided .decide .ensures),
+      lent-called _ _ _ _ _ _ (done .carry-out .ensures .1) (decided .decide .ensures),
     )
 
 pub call-spec : {M : Type 1} → statement M

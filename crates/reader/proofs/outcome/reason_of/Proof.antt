@@ -32,6 +32,9 @@ enum-told-6 c = search needs
 enum-told-7 : tie.Need-enum-told-7
 enum-told-7 c = search needs
 
+enum-told-8 : tie.Need-enum-told-8
+enum-told-8 c = search needs
+
 returns : tie.Need-returns
 unfolding reasonOf
 returns c = c .reason-number .ensures ∙ sym (ap reasonOf (c .before .before .outcome .given .1))
@@ -64,6 +67,10 @@ returns-8 : tie.Need-returns-8
 unfolding reasonOf
 returns-8 c = simp (c .enum-told7 .given .1)
 
+returns-9 : tie.Need-returns-9
+unfolding reasonOf
+returns-9 c = simp (c .enum-told8 .given .1)
+
 pub reason-of-spec : {M : Type 1} → statement M
 reason-of-spec =
     tie.close
@@ -77,6 +84,7 @@ reason-of-spec =
     enum-told-5
     enum-told-6
     enum-told-7
+    enum-told-8
     returns
     returns-2
     returns-3
@@ -84,4 +92,5 @@ reason-of-spec =
     returns-5
     returns-6
     returns-7
-    returns-8)
+    returns-8
+    returns-9)
