@@ -1,0 +1,6 @@
+pub mod Claims
+pub mod Listing
+pub mod Lists
+pub mod Machine
+pub mod Records
+pub mod Secrecy
