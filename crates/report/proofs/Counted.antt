@@ -10,7 +10,7 @@ use mathlib.Core.Path.{_≡_, refl, ap, sym, _∙_}
 use native.Mathlib.Omega.{arith}
 use Rattle.reader.specs.Outcomes.{numberOf, reasonOf}
 use Rattle.reader.specs.declared.outcome.Outcome.{Outcome}
-use Rattle.reader.specs.declared.outcome.Outcome.the-variants.{Answered, AtEnd, Incomplete, Dropped, PastEnd, BadImage, ShortOutput, FullTally}
+use Rattle.reader.specs.declared.outcome.Outcome.the-variants.{Answered, AtEnd, Incomplete, Dropped, PastEnd, BadImage, ShortOutput, FullTally, FullList}
 use Rattle.calls.proofs.Claimed.{history, answer-is-one-frame, nothing-changes, drop-takes-one-byte}
 use Rattle.calls.proofs.Framing.{never-past}
 use Rattle.calls.specs.Claims.{count, isGood, isError, isDropped}
@@ -62,6 +62,7 @@ one-reason PastEnd = refl
 one-reason BadImage = refl
 one-reason ShortOutput = refl
 one-reason FullTally = refl
+one-reason FullList = refl
 
 reasons : (all : List Step)
     → count (isDropped 1) all + count (isDropped 2) all + count (isDropped 3) all + count (isDropped 4) all + count (isDropped 5) all ≡ count isDrop all
@@ -98,6 +99,7 @@ took-none PastEnd not0 not3 pl = refl
 took-none BadImage not0 not3 pl = refl
 took-none ShortOutput not0 not3 pl = refl
 took-none FullTally not0 not3 pl = refl
+took-none FullList not0 not3 pl = refl
 
 -- a tag that waits is handed out, and no byte taken
 is-one : (w : Lowest) → isNone w ≡ false → (n : ℕ) × (p : Place) × (w ≡ Tag n p)
@@ -155,6 +157,7 @@ module _ (input : List ℕ) where
   moved s BadImage e = stays-put s BadImage e (omega arith) (omega arith)
   moved s ShortOutput e = stays-put s ShortOutput e (omega arith) (omega arith)
   moved s FullTally e = stays-put s FullTally e (omega arith) (omega arith)
+  moved s FullList e = stays-put s FullList e (omega arith) (omega arith)
 
   all-over : (k : ℕ) (s : State) → s .reader .cursor ≤ length input
       → took input s (run (replicate k (call input)) s) + (length input - after (replicate k (call input)) s .reader .cursor) ≡ length input - s .reader .cursor

@@ -11,7 +11,7 @@ use Rattle.calls.specs.Claims.{answerOf}
 use Rattle.reader.specs.Outcomes.{numberOf}
 use Rattle.calls.specs.Machine.{State, call, Step, step}
 use Rattle.reader.specs.declared.outcome.Outcome.{Outcome}
-use Rattle.reader.specs.declared.outcome.Outcome.the-variants.{Answered, AtEnd, Incomplete, Dropped, PastEnd, BadImage, ShortOutput, FullTally}
+use Rattle.reader.specs.declared.outcome.Outcome.the-variants.{Answered, AtEnd, Incomplete, Dropped, PastEnd, BadImage, ShortOutput, FullTally, FullList}
 use Rattle.reader.specs.declared.tally.Tally.{Tally}
 use Rattle.frame.specs.Bytes.{pick, byte}
 use Rattle.frame.specs.declared.finding.Reason.the-variants.{NoHeader}
@@ -28,7 +28,8 @@ outcomeOf n =
     (pick (eqb n 10) PastEnd
     (pick (eqb n 11) BadImage
     (pick (eqb n 12) ShortOutput
-    FullTally))))))
+    (pick (eqb n 13) FullTally
+    FullList)))))))
 
 module _ (frame : List ℕ) (b : ℕ) (t : Tally) (left : ℕ) where
   by-number : (o : Outcome) → lineFor o frame b t left ≡ lineFor (outcomeOf (numberOf o)) frame b t left
@@ -41,6 +42,7 @@ module _ (frame : List ℕ) (b : ℕ) (t : Tally) (left : ℕ) where
   by-number BadImage = refl
   by-number ShortOutput = refl
   by-number FullTally = refl
+  by-number FullList = refl
 
 line-as : (input : List ℕ) (s : State) (n : ℕ) → answerOf (call input) s ≡ n
     → lineOf input s (step (call input) s)
@@ -58,6 +60,7 @@ of-refused frame b t left PastEnd h = refl
 of-refused frame b t left BadImage h = refl
 of-refused frame b t left ShortOutput h = refl
 of-refused frame b t left FullTally h = refl
+of-refused frame b t left FullList h = refl
 of-refused frame b t left Answered h = absurd (omega arith)
 of-refused frame b t left (Dropped r) h = absurd (omega arith)
 of-refused frame b t left AtEnd h = absurd (omega arith)

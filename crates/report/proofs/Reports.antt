@@ -10,7 +10,7 @@ use Rattle.calls.specs.Claims.{takes}
 use Rattle.reader.specs.Outcomes.{numberOf}
 use Rattle.calls.specs.Machine.{State, call, Step, step, work}
 use Rattle.reader.specs.declared.outcome.Outcome.{Outcome}
-use Rattle.reader.specs.declared.outcome.Outcome.the-variants.{Answered, AtEnd, Incomplete, Dropped, PastEnd, BadImage, ShortOutput, FullTally}
+use Rattle.reader.specs.declared.outcome.Outcome.the-variants.{Answered, AtEnd, Incomplete, Dropped, PastEnd, BadImage, ShortOutput, FullTally, FullList}
 use Rattle.frame.proofs.Picks.{pick-true, pick-false}
 use Rattle.frame.proofs.Tests.{either}
 use Rattle.frame.specs.Bytes.{pick}
@@ -28,6 +28,7 @@ ends-is x PastEnd e = simp e
 ends-is x BadImage e = simp e
 ends-is x ShortOutput e = simp e
 ends-is x FullTally e = simp e
+ends-is x FullList e = simp e
 
 module _ (input : List ℕ) where
   -- and they lower the work that is left

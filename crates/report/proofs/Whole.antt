@@ -13,7 +13,7 @@ use Rattle.calls.specs.Claims.{answerOf, count, takes}
 use Rattle.reader.specs.Outcomes.{numberOf}
 use Rattle.calls.specs.Machine.{State, call, Step, waiting, unchanged, decide, carriedOut, inputOf, step, run, after}
 use Rattle.reader.specs.declared.outcome.Outcome.{Outcome}
-use Rattle.reader.specs.declared.outcome.Outcome.the-variants.{Answered, AtEnd, Incomplete, Dropped, PastEnd, BadImage, ShortOutput, FullTally}
+use Rattle.reader.specs.declared.outcome.Outcome.the-variants.{Answered, AtEnd, Incomplete, Dropped, PastEnd, BadImage, ShortOutput, FullTally, FullList}
 use Rattle.frame.proofs.Picks.{by-test, pick-true, pick-false}
 use Rattle.frame.proofs.Tests.{either, or-neither}
 use Rattle.frame.specs.Bytes.{pick}

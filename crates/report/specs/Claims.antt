@@ -10,7 +10,7 @@ use lib.ListN.{length, take, drop, replicate, getD}
 use Rattle.reader.specs.Outcomes.{numberOf}
 use Rattle.effects.specs.Sample.{sample, killed}
 use Rattle.reader.specs.declared.outcome.Outcome.{Outcome}
-use Rattle.reader.specs.declared.outcome.Outcome.the-variants.{Answered, AtEnd, Incomplete, Dropped, PastEnd, BadImage, ShortOutput, FullTally}
+use Rattle.reader.specs.declared.outcome.Outcome.the-variants.{Answered, AtEnd, Incomplete, Dropped, PastEnd, BadImage, ShortOutput, FullTally, FullList}
 use Rattle.calls.specs.Claims.{answerOf, count, takes, inventories}
 use Rattle.calls.specs.Machine.{State, call, Step, waiting, step, run, after}
 use Rattle.calls.specs.Secrecy.{isNone, accepted}
@@ -217,6 +217,7 @@ tookBy PastEnd pl = 0
 tookBy BadImage pl = 0
 tookBy ShortOutput pl = 0
 tookBy FullTally pl = 0
+tookBy FullList pl = 0
 
 unfoldable pub handsOut : State → Step → Bool
 handsOut s x = eqb (numberOf (x .outcome)) 0 && not (isNone (waiting s))

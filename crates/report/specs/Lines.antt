@@ -5,7 +5,7 @@ use mathlib.Core.List.{List, [], _∷_, _++_}
 use lib.ListN.{length, take}
 use Rattle.reader.specs.Outcomes.{numberOf}
 use Rattle.reader.specs.declared.outcome.Outcome.{Outcome}
-use Rattle.reader.specs.declared.outcome.Outcome.the-variants.{Answered, AtEnd, Incomplete, Dropped, PastEnd, BadImage, ShortOutput, FullTally}
+use Rattle.reader.specs.declared.outcome.Outcome.the-variants.{Answered, AtEnd, Incomplete, Dropped, PastEnd, BadImage, ShortOutput, FullTally, FullList}
 use Rattle.calls.specs.Machine.{State, Step}
 use Rattle.frame.specs.Bytes.{byte}
 use Rattle.reader.specs.declared.tally.Tally.{Tally}
@@ -102,6 +102,7 @@ lineFor PastEnd frame b t left = refusedLine (numberOf PastEnd)
 lineFor BadImage frame b t left = refusedLine (numberOf BadImage)
 lineFor ShortOutput frame b t left = refusedLine (numberOf ShortOutput)
 lineFor FullTally frame b t left = refusedLine (numberOf FullTally)
+lineFor FullList frame b t left = refusedLine (numberOf FullList)
 
 -- the line of a step from the state s: the frame is that at the start of the output, the byte dropped that at the cursor
 unfoldable pub lineOf : List ℕ → State → Step → List ℕ
@@ -118,3 +119,4 @@ ends PastEnd = true
 ends BadImage = true
 ends ShortOutput = true
 ends FullTally = true
+ends FullList = true

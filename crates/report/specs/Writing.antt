@@ -4,11 +4,12 @@ use mathlib.Core.Bool.{Bool, false}
 use mathlib.Core.List.{List}
 use mathlib.Core.Path.{_≡_}
 use lib.Dec.{ltb}
-use lib.ListN.{length, take}
+use lib.ListN.{length, take, replicate}
 use Rattle.reader.specs.declared.outcome.Outcome.the-variants.{Answered}
 use Rattle.calls.specs.Calls.{selectionIn}
 use Rattle.calls.specs.Machine.{State, stateOf, call, step}
 use Rattle.calls.specs.declared.calling.Called.{Called}
+use Rattle.failures.specs.Records.{blank}
 use Rattle.frame.specs.Putting.{Put}
 use Rattle.frame.specs.Bytes.{pick, byte}
 use Rattle.frame.specs.Frames.{written}
@@ -51,7 +52,7 @@ abbrev pub stateAt : List ℕ → List Place → ℕ → List ℕ → List ℕ �
 stateAt memory places tags bytes output p = stateOf memory places tags (selectionIn bytes (p .count)) output (p .reader) (p .next)
 
 abbrev pub started : Progress
-started = record { reader = freshReader; next = 16; count = 0; over = false }
+started = record { reader = freshReader; next = 16; count = 0; records = replicate 8 blank; held = 0; over = false }
 
 -- one call is made, its line stands at `at`, and the state is the one that the call leaves
 pub record OneLine (input : List ℕ) (s : State) (at : ℕ) (before after : List ℕ) (next : State) (r : Written) : Type 0 where

@@ -4,23 +4,28 @@ use crate::lines::put_drop;
 use crate::lines::put_frame;
 use crate::lines::put_refused;
 use calls::calling::Called;
-use calls::calling::call;
+use failures::listing::call_beside;
+use failures::record::Record;
+use failures::records::add_in;
+use failures::records::remove_in;
 use frame::bytes::byte_at;
 use population::places::Place;
 use reader::outcome::Outcome;
 use reader::state::Reader;
 ghost use mathlib.Core.Path.{_≡_};
-ghost use Prim.Native.Nat.{_+_, _-_, _≤_};
+ghost use Prim.Native.Nat.{_+_, _-_, _≤_, _<_};
 ghost use lib.ListN.{length};
 ghost use Rattle.report.specs.Lines.{longestLine, ends};
 ghost use Rattle.report.specs.Writing.{started, Printable, Printed, stateAt, OneLine, Wrote};
 
 // Where a report stands between two pieces, beside the memory, the output and the selection's bytes: `next` is the number of the first tag that may still be
-// handed out, `count` says how many bytes the selection has.
+// handed out, `count` says how many bytes the selection has, and `held` how many of the records are the list of failures.
 pub struct Progress {
     pub reader: Reader,
     pub next: usize,
     pub count: usize,
+    pub records: [Record; 8],
+    pub held: usize,
     pub over: bool,
 }
 
@@ -32,6 +37,8 @@ impl Progress {
             reader: Reader::fresh(),
             next: 16,
             count: 0,
+            records: [Record::blank(); 8],
+            held: 0,
             over: false,
         }
     }
@@ -75,6 +82,7 @@ fn is_last(outcome: Outcome) -> bool
         Outcome::BadImage => true,
         Outcome::ShortOutput => true,
         Outcome::FullTally => true,
+        Outcome::FullList => true,
     }
 }
 
@@ -103,6 +111,26 @@ fn put_line(
         Outcome::BadImage => put_refused(buffer, at, 11),
         Outcome::ShortOutput => put_refused(buffer, at, 12),
         Outcome::FullTally => put_refused(buffer, at, 13),
+        Outcome::FullList => put_refused(buffer, at, 14),
+    }
+}
+
+// The list of failures, with room for one more.
+struct Roomy {
+    records: [Record; 8],
+    held: usize,
+}
+
+// A full list is acknowledged whole: its failures are told, each by its line.
+fn with_room(records: [Record; 8], held: usize) -> Roomy
+    ensures { λ r. ⌜ r .held < 8 ⌝ }
+{
+    if held < 8 {
+        return Roomy { records, held };
+    }
+    Roomy {
+        records: remove_in(records, 8, 8),
+        held: 0,
     }
 }
 
@@ -126,7 +154,9 @@ fn write_line(
         ⌝ }
 {
     let reader = progress.reader;
-    let called = call(
+    let before = progress.records;
+    let list = with_room(before, progress.held);
+    let listed = call_beside(
         input,
         memory,
         output,
@@ -136,8 +166,13 @@ fn write_line(
         reader,
         progress.next,
         progress.count,
+        8,
+        list.held,
     );
+    let called = listed.called;
     let used = put_line(input, reader.cursor, output, called, buffer, at);
+    let room = list.records;
+    let records = add_in(room, listed.at, listed.item);
     let moved = called.reader;
     let outcome = called.outcome;
     Written {
@@ -147,6 +182,8 @@ fn write_line(
             reader: moved,
             next: called.next,
             count: called.count,
+            records,
+            held: listed.held,
             over: is_last(outcome),
         },
     }

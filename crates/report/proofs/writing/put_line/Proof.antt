@@ -3,7 +3,7 @@ use lib.Seq.{length-take-le}
 use mathlib.Core.Path.{sym}
 use native.Mathlib.Omega.{arith}
 use Rattle.reader.specs.Outcomes.{numberOf}
-use Rattle.reader.specs.declared.outcome.Outcome.the-variants.{Answered, AtEnd, Incomplete, Dropped, PastEnd, BadImage, ShortOutput, FullTally}
+use Rattle.reader.specs.declared.outcome.Outcome.the-variants.{Answered, AtEnd, Incomplete, Dropped, PastEnd, BadImage, ShortOutput, FullTally, FullList}
 use Rattle.report.proofs.CallLines.{printed-as, drop-is, left-is}
 use Rattle.report.specs.Lines.{lineFor}
 use borrow.Author.Needs.{needs}
@@ -73,6 +73,12 @@ enum-told-8 c = search needs
 
 put-refused-requires-4 : tie.Need-put-refused-requires-4
 put-refused-requires-4 c κs = search needs
+
+enum-told-9 : tie.Need-enum-told-9
+enum-told-9 c = search needs
+
+put-refused-requires-5 : tie.Need-put-refused-requires-5
+put-refused-requires-5 c κs = search needs
 
 same-length : tie.Need-same-length
 same-length c = search needs
@@ -149,6 +155,15 @@ returns-8 c =
     let a = c .before .before .before .before .before .before .before .before .before .before .before .args in
     printed-as FullTally (a .input .now) (a .cursor) (a .called) (a .output .now) _ _ _ _ (c .before .before .before .before .enum-told8 .given .1) (c .before .before .put-refused4 .ensures)
 
+same-length-9 : tie.Need-same-length-9
+same-length-9 c = search needs
+
+returns-9 : tie.Need-returns-9
+unfolding lineFor numberOf
+returns-9 c =
+    let a = c .before .before .before .before .before .before .before .before .before .before .before .args in
+    printed-as FullList (a .input .now) (a .cursor) (a .called) (a .output .now) _ _ _ _ (c .before .before .before .before .enum-told9 .given .1) (c .before .before .put-refused5 .ensures)
+
 pub put-line-spec : {M : Type 1} → statement M
 put-line-spec =
     tie.close
@@ -172,6 +187,8 @@ put-line-spec =
     put-refused-requires-3
     enum-told-8
     put-refused-requires-4
+    enum-told-9
+    put-refused-requires-5
     same-length
     returns
     same-length-2
@@ -187,4 +204,6 @@ put-line-spec =
     same-length-7
     returns-7
     same-length-8
-    returns-8)
+    returns-8
+    same-length-9
+    returns-9)
