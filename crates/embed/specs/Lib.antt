@@ -1,3 +1,5 @@
+pub mod Acknowledged
 pub mod Kept
+pub mod Machines
 pub mod Packed
 pub mod Placed

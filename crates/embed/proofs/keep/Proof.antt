@@ -16,7 +16,7 @@ same-length c = search needs
 
 returns : tie.Need-returns
 unfolding kept
-returns c = refl
+returns c = (refl, refl)
 
 pub keep-spec : {M : Type 1} → statement M
 keep-spec = tie.close (tie.spec slice-write-state slice-write-state-2 same-length returns)

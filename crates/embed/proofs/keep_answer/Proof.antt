@@ -34,6 +34,9 @@ slice-write-state-6 c = simp length-set (omega (arith, c .before .before .before
 slice-write-state-7 : tie.Need-slice-write-state-7
 slice-write-state-7 c = simp length-set (omega (arith, c .before .before .before .before .pre))
 
+slice-write-state-8 : tie.Need-slice-write-state-8
+slice-write-state-8 c = simp length-set (omega (arith, c .before .before .before .before .pre))
+
 same-length : tie.Need-same-length
 same-length c = search needs
 
@@ -54,5 +57,6 @@ keep-answer-spec =
     slice-write-state-5
     slice-write-state-6
     slice-write-state-7
+    slice-write-state-8
     same-length
     returns)
