@@ -1,4 +1,5 @@
-/* A crate of three tags, the commands of a line's acceptance, and what the bench answers.
+/* A crate of three tags, the commands of a line's acceptance, what the bench answers, and the list of
+ * failures to sign: it has room for three, and is printed and acknowledged when it is full and at the end.
  *
  *     rt staticlib embed
  *     cc -Iinclude examples/sample.c target/staticlib/libembed.a -o target/sample && target/sample
@@ -7,7 +8,7 @@
 #include <stdio.h>
 #include <string.h>
 
-enum { TAGS = 3, TAG_LENGTH = 86 };
+enum { TAGS = 3, TAG_LENGTH = 86, RECORDS_LENGTH = 3 * POLDRISK_RECORD_LENGTH };
 
 /* Header, Reserved, EPC, TID and User of the sample tag; the rest of User is zeros. */
 static const uint8_t sample_tag[TAG_LENGTH] = {
@@ -67,24 +68,52 @@ static void print_counts(const uint64_t *state)
     printf(" LEFT %llu\n", (unsigned long long)(sizeof input - state[POLDRISK_CURSOR]));
 }
 
+/* Prints the records held, and takes them all off the list. */
+static uint64_t sign(uint64_t *records, uint64_t *state)
+{
+    for (uint64_t i = 0; i < state[POLDRISK_HELD]; i++) {
+        const uint64_t *record = records + i * POLDRISK_RECORD_LENGTH;
+        unsigned long long at = record[POLDRISK_RECORD_CURSOR];
+        if (record[POLDRISK_RECORD_ERROR] == 0)
+            printf("SIGNED at %llu: dropped, reason %u\n", at, (unsigned)record[POLDRISK_RECORD_CAUSE]);
+        else
+            printf("SIGNED at %llu: command %02X, error %02X\n", at, (unsigned)record[POLDRISK_RECORD_CAUSE],
+                   (unsigned)record[POLDRISK_RECORD_ERROR]);
+    }
+    return poldrisk_acknowledge(records, RECORDS_LENGTH, state, POLDRISK_STATE_LENGTH, state[POLDRISK_HELD]);
+}
+
+/* Prints what a call came to: the dropped byte, or the answer frame. */
+static void print_outcome(uint64_t number, uint64_t at, const uint8_t *output, uint64_t length)
+{
+    if (number == POLDRISK_BYTE_DROPPED)
+        printf("DROP %02X\n", input[at]);
+    if (number == POLDRISK_ANSWERED)
+        for (uint64_t i = 0; i < length; i++)
+            printf("%02X%c", output[i], i + 1 < length ? ' ' : '\n');
+}
+
 int main(void)
 {
     uint8_t memory[TAGS * TAG_LENGTH];
     uint8_t output[POLDRISK_OUTPUT_LENGTH] = {0};
     uint8_t selection[POLDRISK_SELECTION_LENGTH] = {0};
+    uint64_t records[RECORDS_LENGTH] = {0};
     uint64_t state[POLDRISK_STATE_LENGTH] = {[POLDRISK_NEXT] = POLDRISK_NONE_TO_HAND_OUT};
     uint64_t number;
     put_tags(memory);
     do {
         uint64_t at = state[POLDRISK_CURSOR];
-        number = poldrisk_call(input, sizeof input, memory, sizeof memory, output, sizeof output,
-                               places, 2 * TAGS, selection, state, POLDRISK_STATE_LENGTH);
-        if (number == POLDRISK_BYTE_DROPPED)
-            printf("DROP %02X\n", input[at]);
-        if (number == POLDRISK_ANSWERED)
-            for (uint64_t i = 0; i < state[POLDRISK_LENGTH]; i++)
-                printf("%02X%c", output[i], i + 1 < state[POLDRISK_LENGTH] ? ' ' : '\n');
-    } while (number == POLDRISK_ANSWERED || number == POLDRISK_BYTE_DROPPED);
+        number = poldrisk_call(input, sizeof input, memory, sizeof memory, output, sizeof output, places,
+                               2 * TAGS, selection, records, RECORDS_LENGTH, state, POLDRISK_STATE_LENGTH);
+        if (number == POLDRISK_FULL_LIST)
+            number = sign(records, state);
+        else
+            print_outcome(number, at, output, state[POLDRISK_LENGTH]);
+    } while (number == POLDRISK_ANSWERED || number == POLDRISK_BYTE_DROPPED ||
+             number == POLDRISK_ACKNOWLEDGED);
+    if (sign(records, state) != POLDRISK_ACKNOWLEDGED)
+        return 1;
     print_counts(state);
     /* a complete run ends with the input used up or a frame waiting; any other number was a refusal */
     return number == POLDRISK_INCOMPLETE ? 0 : 1;

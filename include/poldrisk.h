@@ -1,4 +1,5 @@
-/* Poldrisk for C: a bench that plays a UHF reader module with a crate of Gen2 tags in front of it.
+/* Poldrisk for C: a bench that plays a UHF reader module with a crate of Gen2 tags in front of it, and
+ * lists every failure until it is acknowledged.
  *
  * Link with target/staticlib/libembed.a, which `rt staticlib embed` writes. The library keeps
  * nothing between calls, allocates nothing and calls nothing; it may be used from any thread, as
@@ -14,7 +15,7 @@
 extern "C" {
 #endif
 
-/* The twelve numbers of a bench's state. A bench starts with NEXT at 16 and all others at 0. */
+/* The thirteen numbers of a bench's state. A bench starts with NEXT at 16 and all others at 0. */
 enum {
     POLDRISK_CURSOR = 0,              /* where the next call looks at the input */
     POLDRISK_GOOD = 1,                /* good answers */
@@ -28,7 +29,17 @@ enum {
     POLDRISK_REASON = 9,              /* written by a call: why it dropped a byte, else 0 */
     POLDRISK_NEXT = 10,               /* the first tag that may still be handed out; 16 for none */
     POLDRISK_SELECTED = 11,           /* how many of the 39 bytes are the selection; 0 for none */
-    POLDRISK_STATE_LENGTH = 12
+    POLDRISK_HELD = 12,               /* how many records the list of failures holds */
+    POLDRISK_STATE_LENGTH = 13
+};
+
+/* The three numbers of a record in the list of failures. No error byte is 0, so that ERROR tells the
+ * two kinds of record apart. */
+enum {
+    POLDRISK_RECORD_CURSOR = 0, /* the cursor before the call */
+    POLDRISK_RECORD_CAUSE = 1,  /* the command's code, or the reason of a dropped byte */
+    POLDRISK_RECORD_ERROR = 2,  /* the error byte of the answer, or 0 for a dropped byte */
+    POLDRISK_RECORD_LENGTH = 3
 };
 
 /* Why a byte was dropped. They are tried in this order, and the first that holds is the reason: with
@@ -50,7 +61,8 @@ enum {
 /* NEXT where no tag is still to be handed out. */
 #define POLDRISK_NONE_TO_HAND_OUT 16
 
-/* The answer numbers. */
+/* The answer numbers: 15 and 16 of an acknowledge alone, 20 and 23 of both functions, the others of a
+ * call alone. */
 enum {
     POLDRISK_ANSWERED = 0,     /* a command was accepted, or the next tag of an inventory handed out:
                                 * the answer frame stands at the start of the output */
@@ -61,10 +73,15 @@ enum {
     POLDRISK_BAD_CRATE = 11,   /* the crate breaks a rule: see "A good crate" */
     POLDRISK_SHORT_OUTPUT = 12, /* the output is shorter than 136 bytes */
     POLDRISK_FULL_TALLY = 13,  /* one of the seven counts is at 4,294,967,295 */
-    POLDRISK_BAD_STATE_LENGTH = 20, /* state_length is not 12 */
+    POLDRISK_FULL_LIST = 14,   /* the list holds as many records as it has room for: some are to be
+                                * acknowledged first; or HELD says more than that, and is wrong */
+    POLDRISK_NOT_ACKNOWLEDGED = 15, /* more records than are held, or more held than there is room for */
+    POLDRISK_ACKNOWLEDGED = 16, /* the first records were taken off the list */
+    POLDRISK_BAD_STATE_LENGTH = 20, /* state_length is not 13 */
     POLDRISK_BAD_COUNT = 21,   /* one of the seven counts is above 4,294,967,295 */
-    POLDRISK_BAD_PLACES = 22   /* places_length is odd, or one of the first 32 numbers is above
+    POLDRISK_BAD_PLACES = 22,  /* places_length is odd, or one of the first 32 numbers is above
                                 * 4,294,967,295 */
+    POLDRISK_BAD_RECORDS_LENGTH = 23 /* records_length is no multiple of 3 */
 };
 
 /* One call: hands out the next tag of an inventory, or else looks at the input from the cursor and
@@ -79,8 +96,13 @@ enum {
  * whatever order they lie; each image keeps the rules of a good image, its EPC word 0 the CRC-16 of
  * PC and EPC; and the selection is empty or one that Set Select takes, so at most 39 bytes.
  *
- * Any bytes, places, selection, cursor and counts will do, and the call always returns one of the
- * numbers above. It tests in this order: 20, 21, 22, 10, 11, 12, 13. Then, if a tag from
+ * The list of failures has room for records_length / 3 records, of which the first POLDRISK_HELD are
+ * held. Each error answer and each dropped byte adds exactly one, behind those held. What stands
+ * behind them is not looked at, and what the functions leave there is free where they say so.
+ *
+ * Any bytes, places, selection, records, cursor and counts will do, and the call always returns one of
+ * the numbers above. It tests in this order: 20, 21, 22, 23, 10, 11, 12, 13, 14. The list is full whenever
+ * HELD is not below the room, so always where there is room for none. Then, if a tag from
  * POLDRISK_NEXT on is present and matches the selection, the lowest of these is handed out and the
  * input is not looked at, not even whether something is left of it. Else a command is looked for.
  *
@@ -92,26 +114,48 @@ enum {
  *   inventory that finds no tag, NEXT is 16. A Set Select that is taken writes its parameters to the
  *   front of the selection and their number to SELECTED; the bytes behind them stay. Read,
  *   Write, Lock and Kill go to the lowest tag that is present and matches, and no byte outside its
- *   place changes.
- * - 3: the cursor and the dropped count of the reason go up by one; all else stays.
- * - 1, 2, 10, 11, 12, 13: all stays.
- * - 20, 21, 22: nothing changes, length and reason included.
+ *   place changes. With an error answer the list has one more record: the cursor before the call, the
+ *   command's code, the error byte.
+ * - 3: the cursor and the dropped count of the reason go up by one, and the list has one more record:
+ *   the cursor before the call, the reason, 0. All else stays.
+ * - 1, 2, 10, 11, 12, 13, 14: all stays.
+ * - 20, 21, 22, 23: nothing changes, length and reason included.
  *
- * Under 0 the bytes of the output behind the frame stay. But for 20, 21 and 22 a call writes length
- * and reason: the length of the answer frame under 0, the reason under 3, and 0 otherwise. What
- * stands there before the call is not looked at. A NEXT that is no tag's number means none.
+ * A call that adds a record leaves those before it, and what it leaves behind it is free; every other
+ * call leaves all of the list as it is. Under 0 the bytes of the output behind the frame stay. But for
+ * 20 to 23 a call writes length and reason: the length of the answer frame under 0, the reason under 3,
+ * and 0 otherwise. What stands there before the call is not looked at. A NEXT that is no tag's number
+ * means none.
  *
  * What the caller owes, since no test can show it: each pointer is that of as many readable (and,
  * but for input and places, writable) elements as its length says, the selection that of 39 bytes;
  * none is null even where the length is 0; and none of what a call may write, which is memory, output,
- * selection and state, overlaps any other of the six. Places and state are aligned as uint64_t is.
+ * selection, records and state, overlaps any other of the seven. Places, records and state are aligned
+ * as uint64_t is.
  */
 uint64_t poldrisk_call(const uint8_t *input, size_t input_length,
                        uint8_t *memory, size_t memory_length,
                        uint8_t *output, size_t output_length,
                        const uint64_t *places, size_t places_length,
                        uint8_t *selection /* POLDRISK_SELECTION_LENGTH bytes */,
+                       uint64_t *records, size_t records_length,
                        uint64_t *state, size_t state_length);
+
+/* Takes the first count records off the list, once somebody has signed for them.
+ *
+ * It tests in this order: 20, 23, 15. It looks at nothing else: a list can be acknowledged whatever a
+ * call would be refused for.
+ *
+ * - 16: the first count records are gone, and the rest stand in front in their order; HELD is their
+ *   number, and what stands behind them is free. No other number of the state changes, length and
+ *   reason of the last call included. A count of 0 takes none.
+ * - 15: count is above HELD, or HELD is above the room; then a count of 0 is refused too. Nothing
+ *   changes, nor does it under 20 and 23.
+ *
+ * What the caller owes: as for a call.
+ */
+uint64_t poldrisk_acknowledge(uint64_t *records, size_t records_length,
+                              uint64_t *state, size_t state_length, uint64_t count);
 
 #ifdef __cplusplus
 }

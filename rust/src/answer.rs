@@ -16,6 +16,8 @@ pub enum Answer {
     /// that Set Select would not take.
     BadCrate,
     FullTally,
+    /// The list of failures has no room: some of it is to be acknowledged first.
+    FullList,
 }
 
 /// Why a byte was dropped. A byte for which several would do has the first of them.
@@ -34,14 +36,14 @@ pub enum Reason {
 }
 
 impl Reason {
-    fn of(number: u64) -> Reason {
+    pub(crate) fn of(number: u64) -> Reason {
         match number {
             1 => Reason::NoHeader,
             2 => Reason::WrongType,
             3 => Reason::TooLong,
             4 => Reason::WrongCheck,
             5 => Reason::WrongEnd,
-            // under answer 3 the library reports one of the five
+            // the library gives one of the five, under answer 3 and in the record of a drop
             other => unreachable!("reason {other}"),
         }
     }
@@ -58,8 +60,9 @@ impl Answer {
             10 => Answer::PastEnd,
             11 => Answer::BadCrate,
             13 => Answer::FullTally,
-            // the others cannot come: the output has 136 bytes, the state twelve numbers, a place
-            // two, and counts and places are 32 bits wide
+            14 => Answer::FullList,
+            // the others cannot come: the output has 136 bytes, the state thirteen numbers, a place
+            // two, a record three, and counts and places are 32 bits wide
             other => unreachable!("answer number {other}"),
         }
     }

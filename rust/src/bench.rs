@@ -2,9 +2,10 @@
 
 use crate::answer::{Answer, Reason};
 use crate::packed::{
-    Packed, COUNTS, CURSOR, DROPPED, LENGTH, NEXT, NONE_TO_HAND_OUT, SELECTED, SELECTION_LENGTH,
-    STATE_LENGTH,
+    Packed, ACKNOWLEDGED, COUNTS, CURSOR, DROPPED, HELD, LENGTH, NEXT, NONE_TO_HAND_OUT,
+    RECORD_LENGTH, SELECTED, SELECTION_LENGTH, STATE_LENGTH,
 };
+use crate::record::Record;
 use std::ops::Range;
 
 /// The longest answer frame.
@@ -18,7 +19,7 @@ pub struct Place {
 }
 
 /// A memory with the tags of a crate, a selection, what is still to be handed out of an inventory,
-/// and the reader's cursor and tally.
+/// the reader's cursor and tally, and the list of failures.
 #[derive(Clone, Debug, PartialEq, Eq)]
 pub struct Bench {
     packed: Packed,
@@ -26,8 +27,9 @@ pub struct Bench {
 
 impl Bench {
     /// A bench at the start, on any memory and places: a call says whether they are good. No tag is
-    /// selected out or still to be handed out, and cursor and counts are 0.
-    pub fn new(memory: Vec<u8>, places: &[Place]) -> Bench {
+    /// selected out or still to be handed out, cursor and counts are 0, and the list is empty. It has
+    /// room for so many records; with room for none every call is refused.
+    pub fn new(memory: Vec<u8>, places: &[Place], room: usize) -> Bench {
         let mut state = vec![0; STATE_LENGTH];
         state[NEXT] = NONE_TO_HAND_OUT;
         Bench {
@@ -36,6 +38,7 @@ impl Bench {
                 places: numbers_of(places),
                 selection: [0; SELECTION_LENGTH],
                 output: vec![0; LONGEST_ANSWER],
+                records: vec![0; RECORD_LENGTH * room],
                 state,
             },
         }
@@ -43,7 +46,7 @@ impl Bench {
 
     /// The same with these images one behind the other. None where they have more bytes than a
     /// place can say.
-    pub fn of_tags(images: &[&[u8]]) -> Option<Bench> {
+    pub fn of_tags(images: &[&[u8]], room: usize) -> Option<Bench> {
         let mut from = 0u32;
         let mut places = Vec::new();
         for image in images {
@@ -51,7 +54,7 @@ impl Bench {
             places.push(Place { from, size });
             from = from.checked_add(size)?;
         }
-        Some(Bench::new(images.concat(), &places))
+        Some(Bench::new(images.concat(), &places, room))
     }
 
     /// One call: hands out the next tag of an inventory, or looks at the input from the cursor and
@@ -59,6 +62,24 @@ impl Bench {
     pub fn call(&mut self, input: &[u8]) -> Answer {
         let number = self.packed.call(input);
         Answer::of(number, &self.packed)
+    }
+
+    /// The failures that are not yet acknowledged: each error answer and each dropped byte, in order.
+    pub fn records(&self) -> impl ExactSizeIterator<Item = Record> + '_ {
+        let held = self.packed.state[HELD] as usize;
+        let (records, _) = self.packed.records.as_chunks();
+        records[..held].iter().map(Record::of)
+    }
+
+    /// How many records the list has room for.
+    pub fn room(&self) -> usize {
+        self.packed.records.len() / RECORD_LENGTH
+    }
+
+    /// Takes the first records off the list, and the rest move up. False, and nothing changed, where it
+    /// holds fewer.
+    pub fn acknowledge(&mut self, count: usize) -> bool {
+        self.packed.acknowledge(count as u64) == ACKNOWLEDGED
     }
 
     /// The answer frame of the last call; empty where it wrote none.

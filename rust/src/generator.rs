@@ -1,4 +1,4 @@
-//! Images, crates, commands and inputs for the tests, drawn from a seed. Values are drawn near the bounds
+//! Images, crates, lists, commands and inputs for the tests, drawn from a seed. Values are drawn near the bounds
 //! of the rules, on both sides, since that is where two readings of a rule part.
 
 pub mod bad_crates;
@@ -7,6 +7,7 @@ mod commands;
 pub mod crates;
 mod images;
 mod inputs;
+pub mod lists;
 mod random;
 pub mod selections;
 pub mod starts;

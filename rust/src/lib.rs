@@ -10,6 +10,8 @@ pub mod beside;
 pub mod generator;
 pub mod model;
 pub mod packed;
+pub mod record;
 
 pub use answer::{Answer, Reason};
 pub use bench::{Bench, Place, Tally};
+pub use record::{Failure, Record};

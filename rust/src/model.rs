@@ -1,8 +1,8 @@
 //! An independent implementation of the scope document ("Bench reader and tag: exact rules") and of
 //! the later changes "Why was the byte dropped?", "Locks put right for repeated permalocks", "The tag
-//! keeps its own CRC word" and "Sixteen tags in the crate", written from these papers alone. It shares
-//! no code and no definition with the proved bench, so a mistake would have to be made twice to stay
-//! unseen. Quoted lines are the papers'.
+//! keeps its own CRC word", "Sixteen tags in the crate" and "The list the builder signs", written from
+//! these papers alone. It shares no code and no definition with the proved bench, so a mistake would
+//! have to be made twice to stay unseen. Quoted lines are the papers'.
 
 #[macro_use]
 mod branches;
@@ -16,15 +16,18 @@ mod executing;
 mod finding;
 mod image;
 mod killing;
+mod listing;
 mod locking;
 mod locks;
 mod reading;
 mod selection;
+mod tally;
 mod writing;
 
 #[cfg(feature = "count-branches")]
 pub use counters::read as branch_counts;
 pub use crc::crc16;
+pub use listing::Record;
 
 use answers::Answer;
 use finding::{find, Found};
@@ -40,6 +43,9 @@ const FULL_COUNT: u64 = 4_294_967_295;
 const MOST_TAGS: usize = 16;
 /// The number to go on from where no tag is still to be handed out.
 pub const NONE_TO_HAND_OUT: u64 = MOST_TAGS as u64;
+
+/// The room of a list that nothing else is said of. The papers name none.
+const ROOM: usize = 64;
 
 const RESERVED: usize = 0;
 const EPC: usize = 1;
@@ -66,6 +72,9 @@ pub struct Bench {
     pub length: u64,
     /// The number of the reason under answer 3, else 0.
     pub reason: u64,
+    /// "a lent list of failure records": its whole room, of which the first `held` are records.
+    pub records: Vec<Record>,
+    pub held: u64,
 }
 
 /// "1 no header, 2 wrong type, 3 too long, 4 wrong check, 5 wrong end"
@@ -85,7 +94,7 @@ impl Bench {
     }
 
     /// A bench at the start: these tags one behind the other in the memory, no selection and nothing
-    /// to hand out, the shortest output that will do, cursor and counts at 0.
+    /// to hand out, the shortest output that will do, cursor and counts at 0, a list that "starts empty".
     pub fn of_tags(images: &[Vec<u8>]) -> Bench {
         let mut from = 0;
         let place = |image: &Vec<u8>| {
@@ -105,6 +114,8 @@ impl Bench {
             dropped: [0; 5],
             length: 0,
             reason: 0,
+            records: vec![Record::default(); ROOM],
+            held: 0,
         }
     }
 
@@ -139,16 +150,24 @@ impl Bench {
                 3
             }
             Found::Accepted(pl) => {
-                let answer = self.execute(rest[2], &rest[5..5 + pl]);
-                self.write(&answer);
-                // "cursor moves over the command"
-                self.cursor += 7 + pl as u64;
+                self.take(rest[2], &rest[5..5 + pl]);
                 0
             }
         }
     }
 
-    /// "Tests in the order 10, 11, 12, 13, then the finding rules"
+    /// An accepted command.
+    fn take(&mut self, code: u8, parameters: &[u8]) {
+        let answer = self.execute(code, parameters);
+        self.write(&answer);
+        if let Some(error) = answer.error() {
+            self.list(code.into(), error.into());
+        }
+        // "cursor moves over the command"
+        self.cursor += 7 + parameters.len() as u64;
+    }
+
+    /// "Tests in the order 10, 11, 12, 13", then 14, "tested after 13", "then the finding rules"
     fn refusal(&self, input_length: u64) -> Option<u64> {
         if self.cursor > input_length {
             hit!(CURSOR_PAST_END);
@@ -169,42 +188,12 @@ impl Bench {
             return Some(13);
         }
         hit!(TALLY_FREE);
-        None
-    }
-
-    /// The seven counts: good answers, error answers, and the bytes dropped for each reason.
-    pub fn counts(&self) -> [u64; 7] {
-        let [no_header, wrong_type, too_long, wrong_check, wrong_end] = self.dropped;
-        [
-            self.good,
-            self.error,
-            no_header,
-            wrong_type,
-            too_long,
-            wrong_check,
-            wrong_end,
-        ]
-    }
-
-    /// "any tally count at 4,294,967,295", "each under the limit of answer 13"
-    fn is_tally_full(&self) -> bool {
-        let Some(full) = self.counts().iter().position(|c| *c == FULL_COUNT) else {
-            return false;
-        };
-        match full {
-            0 => hit!(GOOD_FULL),
-            1 => hit!(ERROR_FULL),
-            2 => hit!(NO_HEADER_FULL),
-            3 => hit!(WRONG_TYPE_FULL),
-            4 => hit!(TOO_LONG_FULL),
-            5 => hit!(WRONG_CHECK_FULL),
-            _ => hit!(WRONG_END_FULL),
-        }
-        true
+        self.is_list_full().then_some(14)
     }
 
     /// "a byte dropped | cursor plus 1", and the count of its reason is raised.
     fn drop_byte(&mut self, reason: Reason) {
+        self.list(reason as u64, 0);
         self.cursor += 1;
         self.reason = reason as u64;
         self.dropped[reason as usize - 1] += 1;
@@ -214,8 +203,7 @@ impl Bench {
     fn write(&mut self, answer: &Answer) {
         let length = answer.write(&mut self.output);
         self.length = length as u64;
-        // "An error answer is one with code FF."
-        if answer.code == 0xFF {
+        if answer.error().is_some() {
             hit!(COUNTED_ERROR);
             self.error += 1;
         } else {

@@ -1,10 +1,10 @@
-//! The C interface of the proved bench, as it is: slices, and a state of twelve numbers.
+//! The C interface of the proved bench, as it is: slices, and a state of thirteen numbers.
 
 use std::ops::Range;
 
 /// The numbers of the packed state: cursor, good, error, the five dropped counts in the order of
-/// their reasons, length, reason, next, count.
-pub const STATE_LENGTH: usize = 12;
+/// their reasons, length, reason, next, selected, held.
+pub const STATE_LENGTH: usize = 13;
 /// Where the packed state has its numbers. The seven counts stand in one row, the dropped ones last.
 pub const CURSOR: usize = 0;
 pub const COUNTS: Range<usize> = 1..8;
@@ -15,7 +15,12 @@ pub const REASON: usize = 9;
 pub const NEXT: usize = 10;
 /// How many of the selection's bytes are the selection.
 pub const SELECTED: usize = 11;
+/// How many records the list holds.
+pub const HELD: usize = 12;
 
+/// The numbers of one record: the cursor before the call, the command's code or the reason of a drop,
+/// the error byte or 0 for a drop.
+pub const RECORD_LENGTH: usize = 3;
 /// The longest parameters that Set Select takes: 7 bytes, and a mask of 255 bits in 32.
 pub const SELECTION_LENGTH: usize = 39;
 /// A crate holds up to so many tags. As a number to hand out from on it means that none is left.
@@ -24,12 +29,22 @@ pub const NONE_TO_HAND_OUT: u64 = MOST_TAGS as u64;
 /// The largest count, and the largest number of a place.
 pub const LIMIT: u64 = 4_294_967_295;
 
-/// The library refuses a state that does not have twelve numbers.
+/// The library refuses a state that does not have thirteen numbers.
 pub const STATE_LENGTH_WRONG: u64 = 20;
 /// The library refuses a count above 4,294,967,295.
 pub const COUNT_OUT_OF_RANGE: u64 = 21;
 /// The library refuses an odd number of place numbers, and one above 4,294,967,295 among the first 32.
 pub const PLACES_OUT_OF_RANGE: u64 = 22;
+/// The library refuses a list that has not three numbers for each record.
+pub const RECORDS_LENGTH_WRONG: u64 = 23;
+
+/// The list is full: a call waits for an acknowledge.
+pub const LIST_FULL: u64 = 14;
+/// An acknowledge is refused: it asks for more records than the list holds, or the list says that it
+/// holds more than it has room for.
+pub const NOT_ACKNOWLEDGED: u64 = 15;
+/// An acknowledge was made.
+pub const ACKNOWLEDGED: u64 = 16;
 
 mod library {
     use super::SELECTION_LENGTH;
@@ -45,8 +60,18 @@ mod library {
             places: *const u64,
             places_length: usize,
             selection: *mut [u8; SELECTION_LENGTH],
+            records: *mut u64,
+            records_length: usize,
             state: *mut u64,
             state_length: usize,
+        ) -> u64;
+
+        pub fn poldrisk_acknowledge(
+            records: *mut u64,
+            records_length: usize,
+            state: *mut u64,
+            state_length: usize,
+            count: u64,
         ) -> u64;
     }
 }
@@ -60,6 +85,8 @@ pub struct Packed {
     pub places: Vec<u64>,
     pub selection: [u8; SELECTION_LENGTH],
     pub output: Vec<u8>,
+    /// The list of failures: three numbers for each record that it has room for.
+    pub records: Vec<u64>,
     pub state: Vec<u64>,
 }
 
@@ -79,8 +106,24 @@ impl Packed {
                 self.places.as_ptr(),
                 self.places.len(),
                 &mut self.selection,
+                self.records.as_mut_ptr(),
+                self.records.len(),
                 self.state.as_mut_ptr(),
                 self.state.len(),
+            )
+        }
+    }
+
+    /// Takes the first records off the list.
+    pub fn acknowledge(&mut self, count: u64) -> u64 {
+        // SAFETY: as for a call.
+        unsafe {
+            library::poldrisk_acknowledge(
+                self.records.as_mut_ptr(),
+                self.records.len(),
+                self.state.as_mut_ptr(),
+                self.state.len(),
+                count,
             )
         }
     }

@@ -3,6 +3,8 @@
 use super::*;
 use crate::generator::{frame, sample_image, sample_tag};
 
+mod listing;
+
 const INVENTORY: [u8; 7] = [0xBB, 0x00, 0x22, 0x00, 0x00, 0x22, 0x7E];
 
 fn three_images() -> [Vec<u8>; 3] {
@@ -12,7 +14,7 @@ fn three_images() -> [Vec<u8>; 3] {
 fn three() -> Bench {
     let images = three_images();
     let images: Vec<&[u8]> = images.iter().map(|image| &image[..]).collect();
-    Bench::of_tags(&images).expect("three images are short enough")
+    Bench::of_tags(&images, 16).expect("three images are short enough")
 }
 
 /// The parameters of a Set Select for one bit of the EPC bank.
@@ -33,7 +35,7 @@ fn handed_out(bench: &mut Bench, input: &[u8]) -> Vec<u8> {
 /// The sample tag and input of the scope document, line by line.
 #[test]
 fn sample_kill() {
-    let mut bench = Bench::of_tags(&[&sample_image()]).expect("one image");
+    let mut bench = Bench::of_tags(&[&sample_image()], 2).expect("one image");
     let input = [
         0x41, 0xBB, 0x00, 0x65, 0x00, 0x04, 0x00, 0x00, 0xFF, 0xFF, 0x67, 0x7E,
     ];
@@ -171,7 +173,7 @@ fn places_of_tags() {
     assert_eq!(bench.call(&[]), Answer::AtEnd);
     let image = sample_image();
     for (tags, answer) in [(16, Answer::AtEnd), (17, Answer::BadCrate)] {
-        let mut bench = Bench::of_tags(&vec![&image[..]; tags]).expect("short images");
+        let mut bench = Bench::of_tags(&vec![&image[..]; tags], 1).expect("short images");
         assert_eq!(bench.call(&[]), answer);
     }
 }

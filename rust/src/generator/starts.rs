@@ -3,6 +3,7 @@
 use super::bad_crates::poke_crate;
 use super::crates::{good_crate, image_at, placed, Tags};
 use super::inputs::input_of;
+use super::lists::list;
 use super::selections::select_parameters;
 use super::{command, counts, good_image, image_of_odd_words, input, poke_image, Random};
 use crate::model::Bench;
@@ -76,26 +77,34 @@ pub fn start(random: &mut Random) -> Bench {
     } else {
         raw_next(random)
     };
-    let room = if random.percent(4) {
-        random.pick(&[0, 1, 23, 135])
-    } else {
-        random.pick(&[136, 136, 136, 136, 136, 137, 300])
-    };
+    let (records, held) = list(random);
     let [good, error, dropped @ ..] = counts(random);
     Bench {
         selection,
         next,
         memory: tags.memory,
         places: tags.places,
-        output: random.bytes(room),
+        output: output(random),
         good,
         error,
         dropped,
+        records,
+        held,
         // what stands there before a call is not looked at
         length: random.number(),
         reason: random.pick(&[0, 1, 5, 6, u64::MAX]),
         ..Bench::of_tags(&[])
     }
+}
+
+/// An output, now and then too short.
+fn output(random: &mut Random) -> Vec<u8> {
+    let length = if random.percent(4) {
+        random.pick(&[0, 1, 23, 135])
+    } else {
+        random.pick(&[136, 136, 136, 136, 136, 137, 300])
+    };
+    random.bytes(length)
 }
 
 /// A crate of one tag, good or with one rule of its image at a bound.

@@ -7,7 +7,7 @@ use super::LONGEST_ANSWER;
 /// An answer frame's type, code and parameters.
 pub(super) struct Answer {
     kind: u8,
-    pub(super) code: u8,
+    code: u8,
     parameters: [u8; LONGEST_ANSWER],
     count: usize,
 }
@@ -38,6 +38,11 @@ impl Answer {
     pub(super) fn tail(self, image: &[u8]) -> Answer {
         let pc_and_epc = pc_and_epc(image);
         self.byte(pc_and_epc.len() as u8).bytes(pc_and_epc)
+    }
+
+    /// "An error answer is one with code FF." Its first parameter is the error byte.
+    pub(super) fn error(&self) -> Option<u8> {
+        (self.code == 0xFF).then_some(self.parameters[0])
     }
 
     /// "Bytes: BB, type, code, PL as two bytes high first, PL parameter bytes, check, 7E."

@@ -1,12 +1,13 @@
 //! The model by itself. Here the sample cases of the scope document, and what all its tests use.
 
 use super::image::is_good;
-use super::{crc16, Bench, FULL_COUNT};
+use super::{crc16, Bench, Record, FULL_COUNT};
 use crate::generator::{frame, good_image, input, sample_image, set_double, Random};
 
 mod crates;
 mod crc_word;
 mod finding;
+mod listing;
 mod locking;
 
 fn fresh() -> Bench {
@@ -24,7 +25,8 @@ fn counting(counts: [u64; 7]) -> Bench {
     }
 }
 
-/// One call on a fresh bench that drops a byte: only the cursor, the reason and its count change.
+/// One call on a fresh bench that drops a byte: only the cursor, the reason and its count change, and
+/// the list has its record.
 fn drops(input: &[u8], reason: u64) {
     let mut bench = fresh();
     assert_eq!(bench.call(input), 3, "{input:02X?}");
@@ -32,7 +34,28 @@ fn drops(input: &[u8], reason: u64) {
     expected.cursor = 1;
     expected.reason = reason;
     expected.dropped[reason as usize - 1] = 1;
+    expected.records[0] = record(0, reason, 0);
+    expected.held = 1;
     assert_eq!(bench, expected, "{input:02X?}");
+}
+
+fn record(cursor: u64, cause: u64, error: u64) -> Record {
+    Record {
+        cursor,
+        cause,
+        error,
+    }
+}
+
+/// One call, and where the list is full its records are acknowledged first, all of them.
+fn call_signing(bench: &mut Bench, input: &[u8]) -> u64 {
+    match bench.call(input) {
+        14 => {
+            assert_eq!(bench.acknowledge(bench.held), 16);
+            bench.call(input)
+        }
+        number => number,
+    }
 }
 
 /// One call on a fresh bench that changes nothing. Length and reason of an earlier call go.
@@ -54,12 +77,13 @@ fn odd_frame(kind: u8, parameters: &[u8], check: u8, end: u8) -> Vec<u8> {
     bytes
 }
 
-/// The report on a run of this bench, as the papers print it.
+/// The report on a run of this bench, as the papers print it: "The program acknowledges a full list
+/// whole; its report stays."
 fn report(mut bench: Bench, input: &[u8]) -> String {
     let mut lines = String::new();
     loop {
         let at = bench.cursor as usize;
-        match bench.call(input) {
+        match call_signing(&mut bench, input) {
             0 => lines += &(hex(&bench.output[..bench.length as usize]) + "\n"),
             3 => lines += &format!("DROP {}\n", hex(&input[at..at + 1])),
             _ => break,

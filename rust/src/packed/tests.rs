@@ -14,6 +14,12 @@ fn in_header(name: &str) -> Vec<u64> {
         .collect()
 }
 
+fn in_header_are(numbers: &[(&str, u64)]) {
+    for (name, number) in numbers {
+        assert_eq!(in_header(&format!("POLDRISK_{name}")), [*number], "{name}");
+    }
+}
+
 #[test]
 fn header_has_the_same_numbers() {
     let numbers = [
@@ -43,14 +49,27 @@ fn header_has_the_same_numbers() {
         ("BAD_COUNT", COUNT_OUT_OF_RANGE),
         ("BAD_PLACES", PLACES_OUT_OF_RANGE),
     ];
-    for (name, number) in numbers {
-        assert_eq!(in_header(&format!("POLDRISK_{name}")), [number], "{name}");
-    }
+    in_header_are(&numbers);
+}
+
+#[test]
+fn header_has_the_numbers_of_the_list() {
+    in_header_are(&[
+        ("HELD", HELD as u64),
+        ("RECORD_CURSOR", 0),
+        ("RECORD_CAUSE", 1),
+        ("RECORD_ERROR", 2),
+        ("RECORD_LENGTH", RECORD_LENGTH as u64),
+        ("BAD_RECORDS_LENGTH", RECORDS_LENGTH_WRONG),
+        ("FULL_LIST", LIST_FULL),
+        ("NOT_ACKNOWLEDGED", NOT_ACKNOWLEDGED),
+        ("ACKNOWLEDGED", ACKNOWLEDGED),
+    ]);
 }
 
 type Change = fn(&mut Packed);
 
-/// One tag, with all that a call asks for.
+/// One tag, with all that a call asks for, and room for two records.
 fn lent() -> Packed {
     let mut state = vec![0; STATE_LENGTH];
     state[NEXT] = NONE_TO_HAND_OUT;
@@ -59,6 +78,7 @@ fn lent() -> Packed {
         places: vec![0, 86],
         selection: [0; SELECTION_LENGTH],
         output: vec![0; 136],
+        records: vec![7; 2 * RECORD_LENGTH],
         state,
     }
 }
@@ -67,7 +87,7 @@ fn lent() -> Packed {
 #[test]
 fn header_names_the_answers() {
     let inventory = [0xBB, 0x00, 0x22, 0x00, 0x00, 0x22, 0x7E];
-    let cases: [(&str, &[u8], Change); 8] = [
+    let cases: [(&str, &[u8], Change); 10] = [
         ("ANSWERED", &inventory, |_| ()),
         ("AT_END", &[], |_| ()),
         ("INCOMPLETE", &[0xBB], |_| ()),
@@ -76,6 +96,8 @@ fn header_names_the_answers() {
         ("BAD_CRATE", &[], |lent| lent.places[0] = 1),
         ("SHORT_OUTPUT", &[], |lent| lent.output.truncate(135)),
         ("FULL_TALLY", &[], |lent| lent.state[DROPPED.start] = LIMIT),
+        ("FULL_LIST", &[], |lent| lent.state[HELD] = 2),
+        ("FULL_LIST", &[], |lent| lent.records.clear()),
     ];
     for (name, input, change) in cases {
         let mut lent = lent();
@@ -93,15 +115,19 @@ fn refusals_in_their_order() {
     all.state[COUNTS.start] = LIMIT + 1;
     all.places = vec![1];
     all.output.clear();
+    all.state[HELD] = 3;
     all.state.push(0);
-    let refusals: [(u64, Change); 7] = [
+    all.records.push(7);
+    let refusals: [(u64, Change); 9] = [
         (20, |lent| lent.state.truncate(STATE_LENGTH)),
         (21, |lent| lent.state[COUNTS.start] = LIMIT),
         (22, |lent| lent.places.push(86)),
+        (23, |lent| lent.records.truncate(6)),
         (10, |lent| lent.state[CURSOR] = 0),
         (11, |lent| lent.places[0] = 0),
         (12, |lent| lent.output.resize(136, 0)),
         (13, |lent| lent.state[COUNTS.start] = 0),
+        (14, |lent| lent.state[HELD] = 1),
     ];
     for (number, mend) in refusals {
         let before = all.clone();
@@ -111,4 +137,30 @@ fn refusals_in_their_order() {
     }
     let number = all.call(&[]);
     assert_eq!(Answer::of(number, &all), Answer::AtEnd);
+}
+
+/// The same of an acknowledge, which has fewer: the state lacks what every call would ask for.
+#[test]
+fn refusals_of_an_acknowledge() {
+    let mut all = lent();
+    all.state.fill(u64::MAX);
+    all.state[HELD] = 3;
+    all.state.pop();
+    all.records.extend([7, 7]);
+    let refusals: [(u64, Change); 3] = [
+        (20, |lent| lent.state.push(3)),
+        (23, |lent| lent.records.truncate(6)),
+        (15, |lent| lent.state[HELD] = 2),
+    ];
+    for (number, mend) in refusals {
+        let before = all.clone();
+        assert_eq!(all.acknowledge(0), number);
+        assert_eq!(all, before, "{number}");
+        mend(&mut all);
+    }
+    let before = all.clone();
+    assert_eq!(all.acknowledge(3), NOT_ACKNOWLEDGED);
+    assert_eq!(all, before);
+    assert_eq!(all.acknowledge(2), ACKNOWLEDGED);
+    assert_eq!(all.state[HELD], 0);
 }

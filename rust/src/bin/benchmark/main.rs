@@ -2,7 +2,8 @@
 //!
 //!     benchmark [ROUNDS]
 //!
-//! Each workload is run from a fresh crate to the end of the input, at 4, 8, 16 and 32 KiB. Printed
+//! Each workload is run from a fresh crate to the end of the input, at 4, 8, 16 and 32 KiB. The list of
+//! failures has room for 64 records, and is acknowledged whole whenever it is full. Printed
 //! are the times, the ratio proved to model, and how time grows as the input doubles, each the
 //! median over the rounds. Then the cost of a call, by what it does and how many tags there are. The
 //! model's branch counters are compiled out here.

@@ -4,11 +4,12 @@ use crate::pair::Different;
 use crate::seen::Situation;
 use crate::trial::{Trial, INVENTORY};
 use poldrisk::generator::crates::image_at;
+use poldrisk::generator::lists::held_above;
 use poldrisk::generator::selections::select_parameters;
 use poldrisk::generator::starts::{raw_next, selection};
 use poldrisk::generator::{command, frame};
 use poldrisk::model::Bench;
-use poldrisk::packed::{LIMIT, NONE_TO_HAND_OUT};
+use poldrisk::packed::{ACKNOWLEDGED, LIMIT, LIST_FULL, NONE_TO_HAND_OUT};
 
 impl Trial<'_> {
     /// An inventory, or a hand-out that goes on from any number, and what comes of it.
@@ -29,6 +30,9 @@ impl Trial<'_> {
             }
             let at = self.pair.bench.cursor;
             let number = self.call(&input)?;
+            if number == LIST_FULL && self.makes_room()? {
+                continue;
+            }
             if number == 0 && at == 7 && self.pair.bench.cursor == 7 {
                 self.seen.add(behind);
             }
@@ -66,7 +70,7 @@ impl Trial<'_> {
 
     /// What a caller may do while tags are still to be handed out.
     fn something_between(&mut self, input: &[u8]) -> Result<(), Different> {
-        match self.random.below(8) {
+        match self.random.below(9) {
             0 | 1 => {
                 let tag = self.random.below(self.pair.bench.places.len());
                 let state = self.random.pick(&[0, 1, 2]);
@@ -90,6 +94,11 @@ impl Trial<'_> {
                 self.seen.add(Situation::InputChangedBetween);
             }
             5 | 6 => self.refused_between(input)?,
+            7 => {
+                if self.acknowledge()? == ACKNOWLEDGED {
+                    self.seen.add(Situation::AcknowledgedBetween);
+                }
+            }
             _ => self.gone_between()?,
         }
         Ok(())
@@ -104,21 +113,25 @@ impl Trial<'_> {
         Ok(number)
     }
 
-    /// A call that is refused, by one of the tests 10 to 13. Then what was broken is put back, and all
+    /// A call that is refused, by one of the tests 10 to 14. Then what was broken is put back, and all
     /// else is as that call left it.
     fn refused_between(&mut self, input: &[u8]) -> Result<(), Different> {
         let kept = self.pair.bench.clone();
-        let [kind, way] = [4, 3].map(|n| self.random.below(n));
+        let [kind, way] = [5, 3].map(|n| self.random.below(n));
         let count = self.random.below(5);
+        let above = held_above(&mut self.random, kept.records.len());
         self.pair.change(|bench| match (kind, way) {
             (0, _) => bench.cursor = input.len() as u64 + 1,
             (1, 0) => bench.selection = vec![0x01],
             (1, 1) => bench.places.push(bench.places[0]),
             (1, _) => bench.places[0].1 += 1,
             (2, _) => bench.output.truncate(135),
-            (_, 0) => bench.good = LIMIT,
-            (_, 1) => bench.error = LIMIT,
-            (_, _) => bench.dropped[count] = LIMIT,
+            (3, 0) => bench.good = LIMIT,
+            (3, 1) => bench.error = LIMIT,
+            (3, _) => bench.dropped[count] = LIMIT,
+            (_, 0) => bench.held = bench.records.len() as u64,
+            (_, 1) => bench.held = above,
+            (_, _) => bench.records.truncate(bench.held as usize),
         });
         let number = self.call(input)?;
         match number {
@@ -126,13 +139,15 @@ impl Trial<'_> {
             11 => self.seen.add(Situation::Refused11Between),
             12 => self.seen.add(Situation::Refused12Between),
             13 => self.seen.add(Situation::Refused13Between),
+            14 => self.seen.add(Situation::Refused14Between),
             _ => {}
         }
         self.pair.change(|bench| match kind {
             0 => bench.cursor = kept.cursor,
             1 => (bench.selection, bench.places) = (kept.selection, kept.places),
             2 => bench.output = kept.output,
-            _ => (bench.good, bench.error, bench.dropped) = (kept.good, kept.error, kept.dropped),
+            3 => (bench.good, bench.error, bench.dropped) = (kept.good, kept.error, kept.dropped),
+            _ => (bench.records, bench.held) = (kept.records, kept.held),
         });
         Ok(())
     }

@@ -1,6 +1,7 @@
-//! Feeds the same random calls to the proved bench and to the independent model, and compares number,
-//! whole memory, whole output, places, all 39 bytes of the selection and all twelve numbers of the
-//! state after each call.
+//! Feeds the same random calls and acknowledges to the proved bench and to the independent model, and
+//! compares number, whole memory, whole output, places, all 39 bytes of the selection, the list of failures
+//! and all thirteen numbers of the state after each. Of the list what stands behind the records held is
+//! left out where it is free: after a call that adds one, and after an acknowledge.
 //!
 //!     compare [CALLS] [SEED] [TRIAL]
 //!
@@ -10,6 +11,7 @@
 //! says.
 
 mod handing_out;
+mod listing;
 mod pair;
 mod seen;
 mod shapes;

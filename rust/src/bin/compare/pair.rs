@@ -1,9 +1,9 @@
 //! The proved bench and the model side by side.
 
-use poldrisk::beside::{difference, model_call, packed_of};
+use poldrisk::beside::{difference, model_call, packed_of, take_over_behind};
 use poldrisk::generator::Random;
 use poldrisk::model::Bench;
-use poldrisk::packed::{Packed, SELECTION_LENGTH};
+use poldrisk::packed::{Packed, ACKNOWLEDGED, SELECTION_LENGTH};
 
 /// What is said of a call after which the two stand apart.
 pub struct Different(pub String);
@@ -36,6 +36,7 @@ impl Pair {
 
     /// One call on both, and a look at all that it left.
     pub fn call(&mut self, input: &[u8]) -> Result<u64, Different> {
+        let held = self.bench.held;
         let got = self.proved.call(input);
         let expected = model_call(&mut self.bench, input);
         // a Set Select that is taken stores its parameters in front, and the bytes behind them stay
@@ -43,21 +44,54 @@ impl Pair {
         for (byte, known) in self.selection.iter_mut().zip(known) {
             *byte = *known;
         }
+        if self.bench.held > held {
+            take_over_behind(&self.proved, &mut self.bench);
+        }
+        self.compare([got, expected], || format!("a call on {input:02X?}"))
+    }
+
+    /// An acknowledge of both, and a look at all that it left.
+    pub fn acknowledge(&mut self, count: u64) -> Result<u64, Different> {
+        let got = self.proved.acknowledge(count);
+        let expected = self.bench.acknowledge(count);
+        if expected == ACKNOWLEDGED {
+            take_over_behind(&self.proved, &mut self.bench);
+        }
+        self.compare([got, expected], || format!("an acknowledge of {count}"))
+    }
+
+    fn compare(
+        &self,
+        [got, expected]: [u64; 2],
+        what: impl Fn() -> String,
+    ) -> Result<u64, Different> {
         let field = match difference(&self.proved, &self.bench, &self.selection) {
             None if got == expected => return Ok(got),
             None => "answer",
             Some(field) => field,
         };
+        let Packed {
+            state,
+            selection,
+            records,
+            ..
+        } = &self.proved;
         Err(Different(format!(
-            "{field}, on input {input:02X?}\n\
-             proved bench: answer {got}, state {:?}, selection {:02X?}\n\
+            "{field}, after {}\n\
+             proved bench: answer {got}, state {state:?}, selection {selection:02X?}, records {records:?}\n\
              model: answer {expected}, {:02X?}",
-            self.proved.state, self.proved.selection, self.bench
+            what(),
+            self.bench
         )))
     }
 
     /// Whether some tag may still be handed out.
     pub fn is_handing_out(&self) -> bool {
         self.bench.next < self.bench.places.len() as u64
+    }
+
+    /// Whether the list has no room for another record.
+    pub fn is_list_full(&self) -> bool {
+        self.bench.held >= self.bench.records.len() as u64
     }
 }

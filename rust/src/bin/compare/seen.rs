@@ -17,7 +17,8 @@ situations! {
     HandedOutAtTheEnd HandedOutBeforeHalfAFrame HandedOutBeforeNoise HandedOutBeforeACommand
     // what was changed while tags were still to be handed out
     StateChangedBetween SelectionChangedBetween NextChangedBetween InputChangedBetween
-    Refused10Between Refused11Between Refused12Between Refused13Between
+    Refused10Between Refused11Between Refused12Between Refused13Between Refused14Between
+    AcknowledgedBetween
     // all tags to hand out were gone, and the call went on with the finding rules to this answer
     NoneLeftThen0 NoneLeftThen1 NoneLeftThen2 NoneLeftThen3 NoneLeftThenSelectTaken
     // the tags were back, and were handed out or not
@@ -27,14 +28,26 @@ situations! {
     SixteenFromOneInventory
     // a Set Select stored before the bytes of a longer one
     ShorterSelection
+    // what a call on a full list would have come to if there were room
+    FullBeforeAHandOut FullBeforeGood FullBeforeError FullBefore1 FullBefore2 FullBefore3
+    // the refusals that come before a full list
+    Refused10WithFullList Refused11WithFullList Refused12WithFullList Refused13WithFullList
+    Refused21WithFullList Refused22WithFullList
+    // records were taken off the list behind a call with this answer
+    AcknowledgedAfter0 AcknowledgedAfter1 AcknowledgedAfter2 AcknowledgedAfter3
+    AcknowledgedAfter10 AcknowledgedAfter11 AcknowledgedAfter12 AcknowledgedAfter13
+    AcknowledgedAfter14 AcknowledgedAfter21 AcknowledgedAfter22
+    // a record was written to a place that an acknowledge had freed, and to the last place
+    FreedPlaceUsedAgain LastPlaceUsed
     // shapes that the C interface refuses by itself, each also with what a later test would refuse
-    StateLengthBeforeCount CountBeforePlaces OddPlacesBeforeCursor FarPlaceBeforeCursor
+    StateLengthBeforeCount CountBeforePlaces OddPlacesBeforeRecords FarPlaceBeforeRecords
+    RecordsLengthBeforeCursor AcknowledgeStateLengthBeforeRecords AcknowledgeRecordsLengthBeforeHeld
     FarBehindSixteen SelectionAbove39 SelectionAbove39BehindCursor
 }
 
-/// The largest answer number is 22.
+/// The largest answer number is 23.
 pub struct Seen {
-    answers: [u64; 23],
+    answers: [u64; 24],
     reasons: [u64; 6],
     situations: [u64; SITUATIONS.len()],
 }
@@ -42,7 +55,7 @@ pub struct Seen {
 impl Seen {
     pub fn new() -> Seen {
         Seen {
-            answers: [0; 23],
+            answers: [0; 24],
             reasons: [0; 6],
             situations: [0; SITUATIONS.len()],
         }

@@ -1,12 +1,12 @@
-//! What the C interface refuses by itself, with 20, 21 or 22, and a selection of more bytes than there
-//! are. Each comes together with what a later test would refuse, so that the order shows.
+//! What the C interface refuses by itself, with 20 to 23, and a selection of more bytes than there are.
+//! Each comes together with what a later test would refuse, so that the order shows.
 
 use crate::pair::Different;
 use crate::seen::Situation;
 use crate::trial::{Trial, INVENTORY};
 use poldrisk::packed::{
-    Packed, COUNTS, COUNT_OUT_OF_RANGE, CURSOR, LENGTH, LIMIT, MOST_TAGS, PLACES_OUT_OF_RANGE,
-    REASON, SELECTED, STATE_LENGTH_WRONG,
+    Packed, COUNTS, COUNT_OUT_OF_RANGE, CURSOR, HELD, LENGTH, LIMIT, MOST_TAGS,
+    PLACES_OUT_OF_RANGE, REASON, RECORDS_LENGTH_WRONG, SELECTED, STATE_LENGTH_WRONG,
 };
 
 impl Trial<'_> {
@@ -18,12 +18,18 @@ impl Trial<'_> {
             *number = (*number).min(LIMIT);
         }
         lent.state[CURSOR] = INVENTORY.len() as u64 + 1;
-        match self.random.below(6) {
+        if self.random.percent(50) {
+            lent.state[HELD] = u64::MAX;
+        }
+        match self.random.below(9) {
             0 => self.wrong_state_length(lent),
             1 => self.wrong_count(lent),
             2 => self.odd_places(lent),
             3 => self.far_place(lent),
             4 => self.far_behind_sixteen(lent),
+            5 => self.wrong_records_length(lent),
+            6 => self.acknowledge_wrong_state_length(lent),
+            7 => self.acknowledge_wrong_records_length(lent),
             _ => self.long_selection(lent),
         }
     }
@@ -42,6 +48,16 @@ impl Trial<'_> {
             left.state[REASON] = 0;
         }
         let got = lent.call(&INVENTORY);
+        self.leaves([got, expected], [lent, left], situation)
+    }
+
+    /// What came and what was left, each beside what is expected.
+    fn leaves(
+        &mut self,
+        [got, expected]: [u64; 2],
+        [lent, left]: [Packed; 2],
+        situation: Situation,
+    ) -> Result<(), Different> {
         self.calls += 1;
         if got != expected || lent != left {
             let what = format!("answer {got} for {expected}, left {lent:?}, for {left:?}");
@@ -52,16 +68,33 @@ impl Trial<'_> {
         Ok(())
     }
 
+    /// A number of numbers that is no multiple of three: one too many, one too few, or less than a record.
+    fn misfit_records(&mut self, lent: &mut Packed) {
+        if lent.records.is_empty() || self.random.percent(50) {
+            lent.records.push(0);
+        } else {
+            lent.records.pop();
+        }
+        if self.random.percent(30) {
+            lent.records.truncate(self.random.between(1, 2));
+        }
+    }
+
     fn wrong_state_length(&mut self, mut lent: Packed) -> Result<(), Different> {
         lent.places.push(LIMIT + 1);
         lent.state[COUNTS.start] = LIMIT + 1;
-        let length = self.random.pick(&[0, 1, 2, 8, 10, 11, 13, 14, 24]);
-        lent.state.resize(length, u64::MAX);
+        self.misfit_records(&mut lent);
+        lent.state.resize(self.other_state_length(), u64::MAX);
         self.refused(lent, STATE_LENGTH_WRONG, Situation::StateLengthBeforeCount)
+    }
+
+    fn other_state_length(&mut self) -> usize {
+        self.random.pick(&[0, 1, 2, 8, 11, 12, 14, 15, 26])
     }
 
     fn wrong_count(&mut self, mut lent: Packed) -> Result<(), Different> {
         lent.places.push(0);
+        self.misfit_records(&mut lent);
         let count = self.random.between(COUNTS.start, COUNTS.end - 1);
         lent.state[count] = self.random.pick(&[LIMIT + 1, 1 << 33, 1 << 63, u64::MAX]);
         self.refused(lent, COUNT_OUT_OF_RANGE, Situation::CountBeforePlaces)
@@ -73,7 +106,8 @@ impl Trial<'_> {
             lent.places.resize(2 * self.random.between(16, 18), 0);
         }
         lent.places.push(0);
-        self.refused(lent, PLACES_OUT_OF_RANGE, Situation::OddPlacesBeforeCursor)
+        self.misfit_records(&mut lent);
+        self.refused(lent, PLACES_OUT_OF_RANGE, Situation::OddPlacesBeforeRecords)
     }
 
     fn far_place(&mut self, mut lent: Packed) -> Result<(), Different> {
@@ -84,7 +118,8 @@ impl Trial<'_> {
         // cut to 32 bits it may be right
         let high = self.random.pick(&[1 << 32, 1 << 63, u64::MAX << 32]);
         lent.places[at] |= high;
-        self.refused(lent, PLACES_OUT_OF_RANGE, Situation::FarPlaceBeforeCursor)
+        self.misfit_records(&mut lent);
+        self.refused(lent, PLACES_OUT_OF_RANGE, Situation::FarPlaceBeforeRecords)
     }
 
     /// Numbers behind the sixteenth tag are not looked at: the tags are too many, and that is all.
@@ -107,5 +142,36 @@ impl Trial<'_> {
             (11, Situation::SelectionAbove39)
         };
         self.refused(lent, number, situation)
+    }
+
+    fn wrong_records_length(&mut self, mut lent: Packed) -> Result<(), Different> {
+        self.misfit_records(&mut lent);
+        let situation = Situation::RecordsLengthBeforeCursor;
+        self.refused(lent, RECORDS_LENGTH_WRONG, situation)
+    }
+
+    /// An acknowledge of any number that is refused for its shape: nothing changes at all.
+    fn not_acknowledged(
+        &mut self,
+        mut lent: Packed,
+        expected: u64,
+        situation: Situation,
+    ) -> Result<(), Different> {
+        let left = lent.clone();
+        let got = lent.acknowledge(self.random.pick(&[0, 1, u64::MAX]));
+        self.leaves([got, expected], [lent, left], situation)
+    }
+
+    fn acknowledge_wrong_state_length(&mut self, mut lent: Packed) -> Result<(), Different> {
+        self.misfit_records(&mut lent);
+        lent.state.resize(self.other_state_length(), u64::MAX);
+        let situation = Situation::AcknowledgeStateLengthBeforeRecords;
+        self.not_acknowledged(lent, STATE_LENGTH_WRONG, situation)
+    }
+
+    fn acknowledge_wrong_records_length(&mut self, mut lent: Packed) -> Result<(), Different> {
+        self.misfit_records(&mut lent);
+        let situation = Situation::AcknowledgeRecordsLengthBeforeHeld;
+        self.not_acknowledged(lent, RECORDS_LENGTH_WRONG, situation)
     }
 }

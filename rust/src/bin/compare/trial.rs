@@ -5,7 +5,7 @@ use crate::seen::{Seen, Situation};
 use poldrisk::generator::crates::image_at;
 use poldrisk::generator::starts::{crate_input, start};
 use poldrisk::generator::{lock_anew, Random};
-use poldrisk::packed::NONE_TO_HAND_OUT;
+use poldrisk::packed::{LIST_FULL, NONE_TO_HAND_OUT};
 
 /// An inventory with PL 0, which alone hands out tags.
 pub const INVENTORY: [u8; 7] = [0xBB, 0x00, 0x22, 0x00, 0x00, 0x22, 0x7E];
@@ -15,6 +15,10 @@ pub struct Trial<'a> {
     pub pair: Pair,
     pub seen: &'a mut Seen,
     pub calls: u64,
+    /// The answer of the last call that was no acknowledge.
+    pub last: Option<u64>,
+    /// Whether an acknowledge has freed places of this list.
+    pub freed: bool,
 }
 
 impl Trial<'_> {
@@ -26,6 +30,8 @@ impl Trial<'_> {
             pair,
             seen,
             calls: 0,
+            last: None,
+            freed: false,
         }
     }
 
@@ -42,15 +48,19 @@ impl Trial<'_> {
                 self.wrong_shapes()?;
             }
             self.bring_back();
+            self.perhaps_another_list();
         }
         Ok(())
     }
 
     pub fn call(&mut self, input: &[u8]) -> Result<u64, Different> {
         let selected = self.pair.bench.selection.len();
+        let held = self.pair.bench.held;
         let number = self.pair.call(input)?;
         self.calls += 1;
+        self.last = Some(number);
         self.seen.answer(number, self.pair.bench.reason);
+        self.count_list(number, self.pair.bench.held > held, input);
         if self.pair.bench.selection.len() < selected {
             self.seen.add(Situation::ShorterSelection);
         }
@@ -86,10 +96,15 @@ impl Trial<'_> {
         // by the last inventory, as long as nothing else was taken
         let mut handed_out = 0;
         loop {
+            self.perhaps_acknowledge(4)?;
             let at = self.pair.bench.cursor;
             let number = self.call(input)?;
+            if number == LIST_FULL && self.makes_room()? {
+                continue;
+            }
             if number != 0 && number != 3 {
-                return Ok(());
+                // an acknowledge asks for nothing that a call is refused for
+                return self.perhaps_acknowledge(if number >= 10 { 60 } else { 15 });
             }
             if self.pair.bench.cursor > at {
                 let inventory = number == 0 && input[at as usize..].starts_with(&INVENTORY);

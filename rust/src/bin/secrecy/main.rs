@@ -1,24 +1,27 @@
 //! The secrecy demand, tried on the proved bench alone: two crates that differ only in the password bytes
-//! of some tags get the same calls, and every answer, output, selection, cursor, count, length, reason and
-//! number to hand out from is compared.
+//! of some tags get the same calls and acknowledges, and every answer, output, selection, cursor, count,
+//! length, reason, number to hand out from and failure record held is compared.
 //!
 //!     secrecy [CALLS] [SEED]
 //!
 //! The premises are those of the demand, for every tag that differs: all four passwords nonzero, both
 //! password regions locked; no Read, Write or Lock that carries an access password of such a tag in
 //! either run, no Kill that carries a kill password of one; the same selection and the same tags still to
-//! hand out at the start. Then the same is run with one premise dropped at a time, for one tag, and each
-//! of these runs must show a difference: else the test could not fail, and would show nothing.
+//! hand out at the start, and an empty list of the same room. What stands behind the records may differ.
+//! Then the same is run with one premise dropped at a time, for one tag or one run, and each of these
+//! must show a difference: else the test could not fail, and would show nothing.
 
 mod inputs;
 mod premises;
 mod reached;
 mod runs;
+mod starts;
 
 use inputs::{allowed_input, Secrets};
 use poldrisk::arguments::Arguments;
+use poldrisk::generator::lists::acknowledged;
 use poldrisk::generator::Random;
-use poldrisk::packed::CURSOR;
+use poldrisk::packed::{CURSOR, HELD, LIST_FULL};
 use premises::Dropped;
 use reached::{aim_of, At, Reached};
 use runs::Runs;
@@ -36,18 +39,48 @@ fn trial(random: &mut Random, dropped: Dropped, reached: &mut Reached) -> (u64, 
         for run in &mut runs.two {
             run.state[CURSOR] = cursor;
         }
-        loop {
-            let (number, agreed) = both(&mut runs, &input, reached);
-            calls += 1;
-            if !agreed {
-                return (calls, false);
-            }
-            if number != 0 && number != 3 {
-                break;
-            }
+        let (made, agreed) = walk(random, &mut runs, &input, reached);
+        calls += made;
+        if !agreed {
+            return (calls, false);
         }
     }
     (calls, true)
+}
+
+/// Calls on one input to its end, with acknowledges among them: now and then, and where the list is full.
+fn walk(random: &mut Random, runs: &mut Runs, input: &[u8], reached: &mut Reached) -> (u64, bool) {
+    let mut calls = 0;
+    let mut full = false;
+    loop {
+        if full || random.percent(8) {
+            calls += 1;
+            if !acknowledge(random, runs, reached) {
+                return (calls, false);
+            }
+        }
+        let (number, agreed) = both(runs, input, reached);
+        calls += 1;
+        // a list that is still full was acknowledged in vain, and the next input meets it again
+        let still_full = full && number == LIST_FULL;
+        if !agreed || still_full || ![0, 3, LIST_FULL].contains(&number) {
+            return (calls, agreed);
+        }
+        full = number == LIST_FULL;
+    }
+}
+
+/// An acknowledge of both, of a number that is drawn by what the first of them holds. Says whether they
+/// agree after it.
+fn acknowledge(random: &mut Random, runs: &mut Runs, reached: &mut Reached) -> bool {
+    let held = runs.two[0].state[HELD];
+    let count = acknowledged(random, held);
+    let [one, other] = [0, 1].map(|run| runs.two[run].acknowledge(count));
+    let agreed = one == other && runs.agree();
+    if agreed {
+        reached.acknowledge(one, count, held);
+    }
+    agreed
 }
 
 /// One call on both. Gives its number, and whether they agree after it.

@@ -14,10 +14,13 @@ pub enum Dropped {
     DifferElsewhere,
     OtherSelection,
     OtherTagsToHandOut,
+    OtherRoom,
+    /// The list of one run does not start empty.
+    RecordsAtTheStart,
 }
 
 impl Dropped {
-    pub const EACH: [Dropped; 9] = [
+    pub const EACH: [Dropped; 11] = [
         Dropped::AccessPasswordCarried,
         Dropped::KillPasswordCarried,
         Dropped::KillRegionUnlocked,
@@ -27,5 +30,7 @@ impl Dropped {
         Dropped::DifferElsewhere,
         Dropped::OtherSelection,
         Dropped::OtherTagsToHandOut,
+        Dropped::OtherRoom,
+        Dropped::RecordsAtTheStart,
     ];
 }

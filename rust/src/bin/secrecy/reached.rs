@@ -7,7 +7,7 @@ use std::collections::BTreeMap;
 
 /// Every outcome that can come: the command, whom it was aimed at, and the answer's error byte, or
 /// `good`. A hidden tag is never secured, so no Lock or Kill of it comes to anything.
-const WANTED: [(&str, &str, &[&str]); 24] = [
+const WANTED: [(&str, &str, &[&str]); 25] = [
     ("inventory", "any", &["17"]),
     ("inventory", "none", &["15"]),
     ("inventory", "hidden", &["good"]),
@@ -32,10 +32,15 @@ const WANTED: [(&str, &str, &[&str]); 24] = [
     ("Kill", "none", &["12"]),
     ("Kill", "hidden", &["12"]),
     ("Kill", "other", &["12", "D0", "good"]),
+    (
+        "acknowledge",
+        "records",
+        &["none", "some", "all", "too many"],
+    ),
 ];
 
 /// The answer numbers that must come beside the outcomes.
-const NUMBERS: [u64; 8] = [0, 1, 2, 3, 10, 12, 13, 21];
+const NUMBERS: [u64; 11] = [0, 1, 2, 3, 10, 12, 13, 14, 15, 16, 21];
 
 #[derive(Default)]
 pub struct Reached {
@@ -83,6 +88,19 @@ impl Reached {
             Some(_) => "other",
         };
         let key = format!("{command}, {aimed}: {outcome}");
+        *self.outcomes.entry(key).or_default() += 1;
+    }
+
+    /// Counts an acknowledge of so many records of a list that held so many.
+    pub fn acknowledge(&mut self, number: u64, count: u64, held: u64) {
+        *self.numbers.entry(number).or_default() += 1;
+        let outcome = match count {
+            _ if count > held => "too many",
+            0 => "none",
+            _ if count == held => "all",
+            _ => "some",
+        };
+        let key = format!("acknowledge, records: {outcome}");
         *self.outcomes.entry(key).or_default() += 1;
     }
 
@@ -184,6 +202,7 @@ pub fn aim_of(run: &Packed) -> Option<usize> {
         memory: run.memory.clone(),
         places: places.collect(),
         selection: selection.to_vec(),
+        records: Vec::new(),
         ..Bench::of_tags(&[])
     };
     bench.aimed()

@@ -1,6 +1,6 @@
 //! Several tags: the crate's rules, Set Select, which tag a command is for, and the hand-out.
 
-use super::{frame, fresh, hex, lock_frame, report, Bench, FULL_COUNT};
+use super::{call_signing, frame, fresh, hex, lock_frame, report, Bench, Record, FULL_COUNT};
 use crate::generator::crates::{good_crate, image_at};
 use crate::generator::selections::select_parameters;
 use crate::generator::starts::crate_input;

@@ -211,7 +211,7 @@ fn good_stays_good() {
             assert!(is_good(&bench.memory));
             let input = input(&mut random, &bench.memory);
             bench.cursor = 0;
-            while [0, 3].contains(&bench.call(&input)) {
+            while [0, 3].contains(&call_signing(&mut bench, &input)) {
                 assert!(is_good(&bench.memory), "{input:02X?}");
                 answered += u64::from(bench.length > 0);
             }

@@ -42,6 +42,8 @@ fn locks(old: usize, ld: usize, expected: Option<usize>) {
         }
         None => {
             after.error = 1;
+            after.records[0] = record(0, 0x82, 0xC4);
+            after.held = 1;
             tail_frame(0xFF, Some(0xC4), 0x23)
         }
     };
