@@ -1,13 +1,12 @@
 -- A proof of every statement on the claims page, specs/Claims.antt, in its order.
 use Rattle.report.proofs.Counted as Counted
-use Rattle.report.proofs.Decimals as Decimals
 use Rattle.report.proofs.Laid as Laid
 use Rattle.report.proofs.LinesOfCalls as LinesOfCalls
 use Rattle.report.proofs.NotRun as NotRun
 use Rattle.report.proofs.Sampled as Sampled
 use Rattle.report.proofs.Together as Together
 use Rattle.report.proofs.Whole as Whole
-use Rattle.report.specs.Claims.{SampleReport, SampleImage, EmptyImage, EmptyCrate, GoodFiles, TooLongReport, LongFiles, UnreadableReport, NoticeAlone, RunPrinted, HexDigits, OneDigit, MoreDigits, FrameLines, DropLines, CountLines, CountsInOrder, RefusedLines, LineByLine, GoodCrateReport, BadCrateReport, CountsAreLines, BytesAddUp, PieceByPiece, ShortBuffer, NothingLeft, PiecesAreTheReport, EnoughPieces}
+use Rattle.report.specs.Claims.{SampleReport, SampleImage, EmptyImage, EmptyCrate, GoodFiles, TooLongReport, LongFiles, UnreadableReport, NoticeAlone, RunPrinted, FrameLines, DropLines, CountLines, CountsInOrder, RefusedLines, LineByLine, GoodCrateReport, BadCrateReport, CountsAreLines, BytesAddUp, PieceByPiece, ShortBuffer, NothingLeft, PiecesAreTheReport, EnoughPieces}
 
 pub sample-report : SampleReport
 sample-report = Sampled.sample-report
@@ -38,15 +37,6 @@ notice-alone = NotRun.notice-alone
 
 pub run-printed : RunPrinted
 run-printed = NotRun.run-printed
-
-pub hex-digits : HexDigits
-hex-digits = Decimals.hex-digits
-
-pub one-digit : OneDigit
-one-digit = Decimals.one-digit
-
-pub more-digits : MoreDigits
-more-digits = Decimals.more-digits
 
 pub frame-lines : FrameLines
 frame-lines = LinesOfCalls.frame-lines

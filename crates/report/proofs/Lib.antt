@@ -1,15 +1,12 @@
 pub mod CallLines
 pub mod Claimed
 pub mod Counted
-pub mod Decimals
 pub mod Fitting
-pub mod HexPuts
 pub mod Laid
 pub mod LinePuts
 pub mod LinesOfCalls
 pub mod NotRun
 pub mod Pieces
-pub mod Puts
 pub mod Reports
 pub mod Sampled
 pub mod Together

@@ -1,7 +1,7 @@
 -- The lines of the report, put piece behind piece.
 use Prim.Native.Nat.{ℕ, _+_, _*_, _≤_, _<_}
-use lib.ListN.{length, drop, set, getD, drop-of-length-le}
-use lib.Seq.{sets, take-length, drop-cons}
+use lib.ListN.{length, drop, set, getD, length-append, drop-of-length-le}
+use lib.Seq.{sets, drop-cons}
 use mathlib.Core.List.{List, [], _∷_, _++_}
 use mathlib.Core.Path.{_≡_, refl, ap, sym, _∙_}
 use native.Mathlib.Numerals.{add-one}
@@ -9,30 +9,28 @@ use native.Mathlib.Omega.{arith}
 use Rattle.reader.specs.declared.tally.Tally.{Tally}
 use Rattle.frame.proofs.Stores.{sets-join}
 use Rattle.frame.specs.Putting.{Put}
-use Rattle.frame.proofs.Copies.{copied-is}
-use Rattle.frame.specs.Bytes.{part}
-use Rattle.frame.specs.Copying.{copied}
-use Rattle.report.proofs.Puts.{put-join, byte-put}
-use Rattle.report.specs.Digits.{hexByte, decimal}
 use Rattle.report.specs.Lines.{dropWord, goodWord, errorWord, droppedWord, spaceWord, leftWord, refusedWord, dropLine, separator, frameLine, countPart, twoCounts, tallyPart, countsLine, refusedLine}
 use Rattle.report.specs.Writing.{Line}
-
-pub text-put : (text buffer after : List ℕ) (at : ℕ) → at + length text ≤ length buffer → after ≡ copied text 0 (length text) buffer at
-    → Put text at buffer after (at + length text)
-unfolding part
-text-put text buffer after at room e =
-    record {
-      output-is = e ∙ copied-is text 0 (length text) buffer at (omega arith) room ∙ ap (λ (l : List ℕ). sets buffer at l) (take-length text);
-      next-is = refl;
-    }
+use Rattle.text.proofs.Decimals.{decimal-64}
+use Rattle.text.proofs.Laying.{laid-put, join-laid}
+use Rattle.text.proofs.Puts.{put-join, byte-put}
+use Rattle.text.specs.Digits.{hexByte, decimal}
+use Rattle.text.specs.Laying.{Laid}
 
 -- ---- the counts
 
 module _ (before : List ℕ) (at : ℕ) where
-  pub count-put : (word : List ℕ) (n : ℕ) (middle after : List ℕ) (next last : ℕ) → Put word at before middle next → Put (decimal n) next middle after last
-      → Put (countPart word n) at before after last
+  pub count-put : (word : List ℕ) (n : ℕ) (middle after : List ℕ) (next last : ℕ) → Laid word at before middle next → Laid (decimal n) next middle after last
+      → at + length word + 20 ≤ length before → n < 18446744073709551616 → Put (countPart word n) at before after last
   unfolding countPart
-  count-put word n middle after next last = put-join word (decimal n) at before middle after next last
+  count-put word n middle after next last first second room small =
+      join-laid word (decimal n) at before middle after next last (laid-put word at before middle next (omega arith) first) second
+      (omega (arith, decimal-64 n small))
+
+  pub count-most : (word : List ℕ) (n : ℕ) (after : List ℕ) (last : ℕ) → Put (countPart word n) at before after last → n < 18446744073709551616
+      → last ≤ at + length word + 20
+  unfolding countPart
+  count-most word n after last put small = omega (arith, put .next-is, length-append word (decimal n), decimal-64 n small)
 
   pub two-put : (first : List ℕ) (m : ℕ) (second : List ℕ) (n : ℕ) (middle after : List ℕ) (next last : ℕ) → Put (countPart first m) at before middle next
       → Put (countPart second n) next middle after last → Put (twoCounts first m second n) at before after last
@@ -71,7 +69,24 @@ module _ (before : List ℕ) (at : ℕ) where
   unfolding refusedLine
   refused-put n = closed (countPart refusedWord n)
 
+  -- ---- a byte, and a separator behind it
+
+  pub digits-next : (b : ℕ) (after : List ℕ) (next : ℕ) → Laid (hexByte b) at before after next → at + 3 ≤ length before → next ≡ at + 2
+  unfolding hexByte
+  digits-next b after next laid room = laid-put (hexByte b) at before after next (omega arith) laid .next-is
+
+  pub separated-put : (b mark : ℕ) (after : List ℕ) (next : ℕ) → Laid (hexByte b) at before after next → at + 3 ≤ length before
+      → Put (hexByte b ++ (mark ∷ [])) at before (set after next mark) (next + 1)
+  unfolding hexByte
+  separated-put b mark after next laid room =
+      put-join (hexByte b) (mark ∷ []) at before after (set after next mark) next (next + 1)
+      (laid-put (hexByte b) at before after next (omega arith) laid) (byte-put mark next after)
+
   -- ---- a dropped byte
+
+  pub word-put : (middle : List ℕ) (next : ℕ) → Laid dropWord at before middle next → at + 408 ≤ length before → Put dropWord at before middle next
+  unfolding dropWord
+  word-put middle next laid room = laid-put dropWord at before middle next (omega arith) laid
 
   pub drop-put : (b : ℕ) (middle after : List ℕ) (next last : ℕ) → Put dropWord at before middle next → Put (hexByte b ++ (10 ∷ [])) next middle after last
       → Line (dropLine b) at before after last

@@ -9,7 +9,6 @@ use mathlib.Core.List.{List, [], _∷_}
 use mathlib.Core.Logic.{_≢_}
 use mathlib.Core.Path.{_≡_, refl, ap, sym, _∙_}
 use native.Mathlib.Omega.{arith}
-use Rattle.frame.specs.Putting.{Put}
 use Rattle.frame.proofs.Picks.{pick-true, pick-false}
 use Rattle.frame.proofs.Tests.{holds, fails, either, or-neither}
 use Rattle.frame.specs.Bytes.{pick}
@@ -21,6 +20,8 @@ use Rattle.report.specs.Report.{reportFrom, anyLong, tooLong, fresh, rep
 use Rattle.report.specs.Writing.{Told}
 use Rattle.report.specs.declared.limits.Files.{Files}
 use Rattle.report.specs.declared.limits.Files.the-variants.{Unreadable, TooLong, Fit}
+use Rattle.text.proofs.Laying.{laid-put, laid-none}
+use Rattle.text.specs.Laying.{Laid}
 
 pub by-commands : (commands : ℕ) (sizes : List ℕ) → 32768 < commands → true ≡ tooLong commands sizes
 unfolding tooLong
@@ -65,11 +66,12 @@ unfolding anyLong
 all-short [] h = refl
 all-short (n ∷ sizes) h = simp (le-ltb 2048 n (h 0 (omega arith))) (all-short sizes (λ i l. h (suc i) (omega arith)))
 
-pub untold : (line buffer : List ℕ) → length buffer < length line → Told line buffer buffer 0
-untold line buffer h = record { short = λ k. (refl, refl); long = λ k. absurd (omega arith) }
-
-pub told : (line before after : List ℕ) (used : ℕ) → length line ≤ length before → Put line 0 before after used → Told line before after used
-told line before after used room put = record { short = λ k. absurd (omega arith); long = λ k. put-first line before after used put room }
+pub told : (line before after : List ℕ) (used : ℕ) → Laid line 0 before after used → Told line before after used
+told line before after used laid =
+    record {
+      short = λ k. laid-none line 0 before after used (omega arith) laid;
+      long = λ k. put-first line before after used (laid-put line 0 before after used (omega arith) laid) k;
+    }
 
 pub none-told : (buffer : List ℕ) → Told [] buffer buffer 0
 unfolding written

@@ -16,7 +16,6 @@ use Rattle.frame.proofs.Tests.{either}
 use Rattle.frame.specs.Bytes.{pick}
 use Rattle.frame.specs.Frames.{written}
 use Rattle.report.proofs.Fitting.{over-is, no-room, piece-over, piece-more}
-use Rattle.report.proofs.Puts.{put-join}
 use Rattle.report.proofs.Reports.{less-left, one-left}
 use Rattle.report.specs.Lines.{lineOf, ends}
 use Rattle.report.specs.Pieces.{pieceOf, leftBy, overBy}
@@ -26,6 +25,7 @@ use Rattle.report.specs.declared.writing.Progress.{Progress}
 use Rattle.report.specs.declared.writing.Room.{Room}
 use Rattle.report.specs.declared.writing.Room.the-variants.{Enough, TooShort}
 use Rattle.report.specs.declared.writing.Written.{Written}
+use Rattle.text.proofs.Puts.{put-join}
 
 -- what was put at the start of the buffer is written there
 pub put-first : (bytes before new : List ℕ) (used : ℕ) → Put bytes 0 before new used → length bytes ≤ length before

@@ -1,8 +1,8 @@
 -- The claims page of the report: what is promised of its definition, each as a named statement with document 01's words beside it. Each
 -- is proved in proofs/Claimed.antt. That the code writes this report is the contract of `report::writing::write`.
-use Prim.Native.Nat.{ℕ, suc, _+_, _-_, _*_, _/_, _%_, _≤_, _<_}
+use Prim.Native.Nat.{ℕ, suc, _+_, _-_, _*_, _/_, _≤_, _<_}
 use mathlib.Core.Bool.{Bool, true, false, not, _&&_}
-use mathlib.Core.List.{List, [], _∷_, _++_, map}
+use mathlib.Core.List.{List, [], _∷_, _++_}
 use mathlib.Core.Logic.{_⊎_, _↔_, _≢_}
 use mathlib.Core.Path.{_≡_}
 use lib.Dec.{eqb}
@@ -19,11 +19,11 @@ use Rattle.frame.specs.Frames.{sum}
 use Rattle.image.specs.Image.{good}
 use Rattle.population.specs.Places.{goodPopulation}
 use Rattle.reader.specs.declared.tally.Tally.{Tally}
-use Rattle.report.specs.Digits.{hexDigit, decimal}
 use Rattle.report.specs.Lines.{tooLongLine, dropLine, frameLine, countsLine, refusedLine, longestLine, lineOf}
 use Rattle.report.specs.Pieces.{pieceOf, leftBy, overBy, pieces}
 use Rattle.report.specs.Report.{linesOf, reportFrom, lastState, tooLong, placesOf, fresh, reportOf, filesOf, noticeOf, printed}
 use Rattle.report.specs.declared.limits.Files.the-variants.{Fit}
+use Rattle.text.specs.Digits.{decimal}
 
 -- ---- the report that document 01 prints
 
@@ -98,21 +98,6 @@ RunPrinted =
     (readable : Bool) (commands memory sizes : List ℕ)
     → filesOf readable (length commands) sizes ≡ Fit
     → printed readable commands memory sizes ≡ reportFrom commands false (fresh memory sizes)
-
--- ---- the digits
-
--- The digits of a byte are `0` to `9` and `A` to `F`. A number below ten is its digit; any other is the digits of its tenth, and its
--- last digit: so no number begins with a zero but 0 itself.
-abbrev pub HexDigits : Type 0
-HexDigits =
-    map hexDigit (0 ∷ 1 ∷ 2 ∷ 3 ∷ 4 ∷ 5 ∷ 6 ∷ 7 ∷ 8 ∷ 9 ∷ 10 ∷ 11 ∷ 12 ∷ 13 ∷ 14 ∷ 15 ∷ [])
-    ≡ 48 ∷ 49 ∷ 50 ∷ 51 ∷ 52 ∷ 53 ∷ 54 ∷ 55 ∷ 56 ∷ 57 ∷ 65 ∷ 66 ∷ 67 ∷ 68 ∷ 69 ∷ 70 ∷ []
-
-abbrev pub OneDigit : Type 0
-OneDigit = (n : ℕ) → n < 10 → decimal n ≡ (48 + n) ∷ []
-
-abbrev pub MoreDigits : Type 0
-MoreDigits = (n : ℕ) → 10 ≤ n → decimal n ≡ decimal (n / 10) ++ ((48 + n % 10) ∷ [])
 
 -- ---- the line of a call
 

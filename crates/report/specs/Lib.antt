@@ -1,5 +1,4 @@
 pub mod Claims
-pub mod Digits
 pub mod Lines
 pub mod Pieces
 pub mod Report

@@ -9,7 +9,7 @@ use Rattle.reader.specs.declared.outcome.Outcome.the-variants.{Answered, AtEnd,
 use Rattle.calls.specs.Machine.{State, Step}
 use Rattle.frame.specs.Bytes.{byte}
 use Rattle.reader.specs.declared.tally.Tally.{Tally}
-use Rattle.report.specs.Digits.{hexByte, decimal}
+use Rattle.text.specs.Digits.{hexByte, decimal}
 
 -- ---- the words, with the spaces round them
 

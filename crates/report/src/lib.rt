@@ -1,5 +1,4 @@
 // The report of document 01: what the program writes of a run of calls, in pieces that fit a lent buffer.
-pub mod digits;
 pub mod limits;
 pub mod lines;
 pub mod writing;

@@ -1,5 +1,5 @@
 // What is tested of the program's files before a run, and the report on files that are not run.
-use crate::lines::put_text;
+use text::putting::put_text;
 ghost use mathlib.Core.Path.{_≡_};
 ghost use Rattle.report.specs.Report.{anyLong, tooLong, filesOf, noticeOf};
 ghost use Rattle.report.specs.Writing.{Told};
@@ -48,24 +48,14 @@ pub fn judge(readable: bool, commands: usize, sizes: &[u64]) -> Files
     Files::Fit
 }
 
-// Where the buffer has no room for the line, nothing is put.
-fn put_notice(line: &[u8], buffer: &mut [u8]) -> usize
-    ensures { λ r. ⌜ Told (now (line .entry)) (now (buffer .entry)) (now (buffer .exit)) r ⌝ }
-{
-    if buffer.len() < line.len() {
-        return 0;
-    }
-    put_text(buffer, 0, line)
-}
-
 // The whole report on files that are not run, at the start of the buffer. The result is how many bytes were written: none where the
 // buffer has no room for them, and then nothing changes.
 pub fn write_notice(files: Files, buffer: &mut [u8]) -> usize
     ensures { λ r. ⌜ Told (noticeOf files) (now (buffer .entry)) (now (buffer .exit)) r ⌝ }
 {
     match files {
-        Files::Unreadable => put_notice(b"UNREADABLE\n", buffer),
-        Files::TooLong => put_notice(b"TOO LONG\n", buffer),
+        Files::Unreadable => put_text(buffer, 0, b"UNREADABLE\n"),
+        Files::TooLong => put_text(buffer, 0, b"TOO LONG\n"),
         Files::Fit => 0,
     }
 }

@@ -1,22 +1,16 @@
 // The lines of the report, put into a lent buffer. Each function hands back the place behind what it put.
-use crate::digits::put_decimal;
-use crate::digits::put_hex;
-use frame::copying::copy;
 use reader::tally::Tally;
+use text::digits::put_decimal;
+use text::digits::put_hex;
+use text::putting::put_text;
 ghost use mathlib.Core.Path.{_≡_};
 ghost use Prim.Native.Nat.{_+_, _≤_, _<_};
+ghost use mathlib.Core.List.{_∷_, [], _++_};
 ghost use lib.ListN.{length, drop};
 ghost use Rattle.frame.specs.Putting.{Put};
 ghost use Rattle.report.specs.Lines.{dropLine, separator, frameLine, countPart, twoCounts, tallyPart, countsLine, refusedLine, longestLine};
 ghost use Rattle.report.specs.Writing.{Line};
-
-pub(crate) fn put_text(buffer: &mut [u8], at: usize, text: &[u8]) -> usize
-    requires { ⌜ at + length (now text) ≤ length (now buffer) ⌝ }
-    ensures { λ r. ⌜ Put (now (text .entry)) at (now (buffer .entry)) (now (buffer .exit)) r ⌝ }
-{
-    copy(text, 0, text.len(), buffer, at);
-    at + text.len()
-}
+ghost use Rattle.text.specs.Digits.{hexByte};
 
 // A word and the number behind it.
 fn put_count(buffer: &mut [u8], at: usize, word: &[u8], n: u64) -> usize
@@ -75,12 +69,22 @@ pub(crate) fn put_refused(buffer: &mut [u8], at: usize, number: u64) -> usize
     last + 1
 }
 
+// A byte in two hex digits, and a separator behind it.
+fn put_byte(buffer: &mut [u8], at: usize, b: u8, mark: u8) -> usize
+    requires { ⌜ at + 3 ≤ length (now buffer) ⌝ }
+    ensures { λ r. ⌜ Put (hexByte b ++ (mark ∷ [])) at (now (buffer .entry)) (now (buffer .exit)) r ⌝ }
+{
+    let next = put_hex(buffer, at, b);
+    buffer[next] = mark;
+    next + 1
+}
+
 pub(crate) fn put_drop(buffer: &mut [u8], at: usize, dropped: u8) -> usize
     requires { ⌜ at + longestLine ≤ length (now buffer) ⌝ }
     ensures { λ r. ⌜ Line (dropLine dropped) at (now (buffer .entry)) (now (buffer .exit)) r ⌝ }
 {
     let next = put_text(buffer, at, b"DROP ");
-    put_hex(buffer, next, dropped, b'\n')
+    put_byte(buffer, next, dropped, b'\n')
 }
 
 // What stands behind the byte before `next`: a space, or the newline behind the last one.
@@ -102,7 +106,7 @@ pub(crate) fn put_frame(buffer: &mut [u8], at: usize, frame: &[u8]) -> usize
     let mut i = 0;
     let mut next = at;
     while i < frame.len() {
-        next = put_hex(buffer, next, frame[i], behind(frame, i + 1));
+        next = put_byte(buffer, next, frame[i], behind(frame, i + 1));
         i += 1;
     }
     next

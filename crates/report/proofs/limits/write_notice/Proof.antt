@@ -1,5 +1,5 @@
 -- `write_notice` meets its contract: the line of each case.
-use Rattle.report.proofs.NotRun.{told-as, none-told}
+use Rattle.report.proofs.NotRun.{told, told-as, none-told}
 use Rattle.report.specs.Lines.{tooLongLine, unreadableLine}
 use Rattle.report.specs.Report.{noticeOf}
 use Rattle.report.specs.declared.limits.Files.the-variants.{Unreadable, TooLong, Fit}
@@ -11,20 +11,20 @@ use Rattle.report.proofs.limits.write_notice.Tie as tie
 enum-told : tie.Need-enum-told
 enum-told c = search needs
 
-slice-aggregate-put-notice : tie.Need-slice-aggregate-put-notice
-slice-aggregate-put-notice c = search needs
+slice-aggregate-put-text : tie.Need-slice-aggregate-put-text
+slice-aggregate-put-text c = search needs
 
-put-notice-requires : tie.Need-put-notice-requires
-put-notice-requires c κs = search needs
+put-text-requires : tie.Need-put-text-requires
+put-text-requires c κs = search needs
 
 enum-told-2 : tie.Need-enum-told-2
 enum-told-2 c = search needs
 
-slice-aggregate-put-notice-2 : tie.Need-slice-aggregate-put-notice-2
-slice-aggregate-put-notice-2 c = search needs
+slice-aggregate-put-text-2 : tie.Need-slice-aggregate-put-text-2
+slice-aggregate-put-text-2 c = search needs
 
-put-notice-requires-2 : tie.Need-put-notice-requires-2
-put-notice-requires-2 c κs = search needs
+put-text-requires-2 : tie.Need-put-text-requires-2
+put-text-requires-2 c κs = search needs
 
 enum-told-3 : tie.Need-enum-told-3
 enum-told-3 c = search needs
@@ -34,14 +34,14 @@ same-length c = search needs
 
 returns : tie.Need-returns
 unfolding noticeOf unreadableLine
-returns c = told-as _ Unreadable _ _ _ _ (c .before .before .before .before .before .enum-told .given .1) refl (c .before .before .put-notice .ensures)
+returns c = told-as _ Unreadable _ _ _ _ (c .before .before .before .before .before .enum-told .given .1) refl (told _ _ _ _ (c .before .before .put-text .ensures))
 
 same-length-2 : tie.Need-same-length-2
 same-length-2 c = search needs
 
 returns-2 : tie.Need-returns-2
 unfolding noticeOf tooLongLine
-returns-2 c = told-as _ TooLong _ _ _ _ (c .before .before .before .before .before .enum-told2 .given .1) refl (c .before .before .put-notice2 .ensures)
+returns-2 c = told-as _ TooLong _ _ _ _ (c .before .before .before .before .before .enum-told2 .given .1) refl (told _ _ _ _ (c .before .before .put-text2 .ensures))
 
 returns-3 : tie.Need-returns-3
 unfolding noticeOf
@@ -52,11 +52,11 @@ write-notice-spec =
     tie.close
     (tie.spec
     enum-told
-    slice-aggregate-put-notice
-    put-notice-requires
+    slice-aggregate-put-text
+    put-text-requires
     enum-told-2
-    slice-aggregate-put-notice-2
-    put-notice-requires-2
+    slice-aggregate-put-text-2
+    put-text-requires-2
     enum-told-3
     same-length
     returns

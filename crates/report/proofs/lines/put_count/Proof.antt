@@ -1,6 +1,6 @@
 -- `put_count` meets its contract: the word, then the number.
 use native.Mathlib.Omega.{arith}
-use Rattle.report.proofs.LinePuts.{count-put}
+use Rattle.report.proofs.LinePuts.{count-put, count-most}
 use borrow.Author.Needs.{needs}
 use Rattle.report.proofs.lines.put_count.Statement.{statement}
 use Rattle.report.proofs.lines.put_count.Tie as tie
@@ -18,7 +18,8 @@ returns : tie.Need-returns
 returns c =
     let number = c .before .before .put-decimal .ensures in
     let word = c .before .before .before .before .before .before .put-text .ensures in
-    (count-put _ _ _ _ _ _ _ _ word (number .0), omega (arith, number .1, word .next-is))
+    let put = count-put _ _ _ _ _ _ _ _ word number (omega arith) (omega arith) in
+    (put, count-most _ _ _ _ _ _ put (omega arith))
 
 pub put-count-spec : {M : Type 1} → statement M
 put-count-spec = tie.close (tie.spec put-text-requires put-decimal-requires same-length returns)

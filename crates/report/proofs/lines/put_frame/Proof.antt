@@ -23,8 +23,8 @@ abbrev μ-loop : tie.MeasureT-loop
 loop-holds : tie.Need-loop-holds Inv-loop μ-loop
 loop-holds c = (omega arith, (omega arith, (refl, refl)))
 
-shared-slice-read-put-hex : tie.Need-shared-slice-read-put-hex Inv-loop μ-loop
-shared-slice-read-put-hex c = omega arith
+shared-slice-read-put-byte : tie.Need-shared-slice-read-put-byte Inv-loop μ-loop
+shared-slice-read-put-byte c = omega arith
 
 add-behind : tie.Need-add-behind Inv-loop μ-loop
 add-behind c = omega arith
@@ -32,8 +32,8 @@ add-behind c = omega arith
 behind-requires : tie.Need-behind-requires Inv-loop μ-loop
 behind-requires c κs = omega arith
 
-put-hex-requires : tie.Need-put-hex-requires Inv-loop μ-loop
-put-hex-requires c κs = omega arith
+put-byte-requires : tie.Need-put-byte-requires Inv-loop μ-loop
+put-byte-requires c κs = omega arith
 
 add-i : tie.Need-add-i Inv-loop μ-loop
 add-i c = omega arith
@@ -44,7 +44,7 @@ loop-less c = omega arith
 loop-again : tie.Need-loop-again Inv-loop μ-loop
 loop-again c =
     let l = c .before .before .before .before .before .before .before .loop in
-    let put = c .before .before .put-hex .ensures in
+    let put = c .before .before .put-byte .ensures in
     let test = c .before .before .before .before .before .before .loop-test .taken in
     let separated = c .before .before .before .behind .ensures in (
       omega arith,
@@ -70,10 +70,10 @@ put-frame-spec =
     Inv-loop
     μ-loop
     loop-holds
-    shared-slice-read-put-hex
+    shared-slice-read-put-byte
     add-behind
     behind-requires
-    put-hex-requires
+    put-byte-requires
     add-i
     loop-less
     loop-again

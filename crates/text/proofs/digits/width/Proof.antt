@@ -2,10 +2,10 @@
 use Prim.Native.Nat.{_+_}
 use mathlib.Core.Path.{_≡_, refl}
 use native.Mathlib.Omega.{arith}
-use Rattle.report.proofs.Decimals.{width-one, width-more, width-64}
-use Rattle.report.specs.Digits.{width}
-use Rattle.report.proofs.digits.width.Statement.{statement}
-use Rattle.report.proofs.digits.width.Tie as tie
+use Rattle.text.proofs.Decimals.{width-one, width-more, width-64}
+use Rattle.text.specs.Digits.{width}
+use Rattle.text.proofs.digits.width.Statement.{statement}
+use Rattle.text.proofs.digits.width.Tie as tie
 
 abbrev Inv-loop : tie.InvT-loop
 Inv-loop n left₀ w₀ left w = w + width left ≡ 1 + width n

@@ -4,17 +4,21 @@ use borrow.Author.Tests.{lt-ltb, le-ltb, ltb-true, ltb-false}
 use lib.Dec.{ltb}
 use lib.ListN.{length, set, length-append}
 use lib.Seq.{sets}
+use mathlib.Core.Bool.{false}
 use mathlib.Core.List.{List, [], _∷_, _++_}
 use mathlib.Core.Path.{_≡_, refl, ap, sym, _∙_}
 use native.Mathlib.Omega.{arith}
+use Rattle.frame.proofs.Copies.{there-reaches}
 use Rattle.frame.proofs.Stores.{set-join}
 use Rattle.frame.specs.Putting.{Put}
 use Rattle.frame.proofs.Picks.{by-test, pick-true, pick-false}
 use Rattle.frame.proofs.Tests.{either}
-use Rattle.frame.specs.Bytes.{pick}
-use Rattle.report.proofs.Puts.{set-before}
-use Rattle.report.specs.Claims.{HexDigits, OneDigit, MoreDigits}
-use Rattle.report.specs.Digits.{hexDigit, widthBy, width, digits, decimal}
+use Rattle.frame.specs.Bytes.{pick, reaches}
+use Rattle.text.proofs.Laying.{put-laid, none-laid}
+use Rattle.text.proofs.Puts.{set-before}
+use Rattle.text.specs.Claims.{HexDigits, OneDigit, MoreDigits}
+use Rattle.text.specs.Digits.{hexDigit, widthBy, width, digits, decimal}
+use Rattle.text.specs.Laying.{Laid}
 
 -- more tenths than needed change nothing
 enough : (f g n : ℕ) → n ≤ f → n ≤ g → widthBy f n ≡ widthBy g n
@@ -80,13 +84,30 @@ pub digits-none : (left : ℕ) → digits 0 left ≡ []
 unfolding digits
 digits-none left = refl
 
-pub decimal-put : (buffer after : List ℕ) (at n w : ℕ) → w ≡ width n → after ≡ sets buffer at (digits w n) → Put (decimal n) at buffer after (at + w)
+length-decimal : (n w : ℕ) → w ≡ width n → length (decimal n) ≡ w
+unfolding decimal
+length-decimal n w e = length-digits (width n) n ∙ sym e
+
+decimal-put : (buffer after : List ℕ) (at n w : ℕ) → w ≡ width n → after ≡ sets buffer at (digits w n) → Put (decimal n) at buffer after (at + w)
 unfolding decimal
 decimal-put buffer after at n w e o =
     record {
       output-is = o ∙ ap (λ (k : ℕ). sets buffer at (digits k n)) e;
       next-is = ap (λ (k : ℕ). at + k) (e ∙ sym (length-digits (width n) n));
     }
+
+pub decimal-none-laid : (n at w : ℕ) (buffer : List ℕ) → w ≡ width n → reaches buffer at w ≡ false → Laid (decimal n) at buffer buffer at
+decimal-none-laid n at w buffer e none = none-laid (decimal n) at buffer (ap (reaches buffer at) (length-decimal n w e) ∙ none)
+
+pub decimal-laid : (n at w : ℕ) (buffer after : List ℕ) → w ≡ width n → at + w ≤ length buffer → after ≡ sets buffer at (digits w n)
+    → Laid (decimal n) at buffer after (at + w)
+decimal-laid n at w buffer after e room o =
+    put-laid (decimal n) at buffer after (at + w) (ap (reaches buffer at) (length-decimal n w e) ∙ there-reaches buffer at w room)
+    (decimal-put buffer after at n w e o)
+
+-- a number of 64 bits has room in twenty
+pub decimal-64 : (n : ℕ) → n < 18446744073709551616 → length (decimal n) ≤ 20
+decimal-64 n h = omega (arith, length-decimal n (width n) refl, width-64 n h)
 
 -- ---- the digits of a number, by its tenths
 

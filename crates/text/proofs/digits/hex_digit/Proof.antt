@@ -1,10 +1,10 @@
 -- `hex_digit` meets its contract: a digit below ten, or a letter.
 use borrow.Author.Tests.{lt-ltb, le-ltb}
 use Rattle.frame.proofs.Picks.{pick-true, pick-false}
-use Rattle.report.specs.Digits.{hexDigit}
+use Rattle.text.specs.Digits.{hexDigit}
 use borrow.Author.Needs.{needs}
-use Rattle.report.proofs.digits.hex_digit.Statement.{statement}
-use Rattle.report.proofs.digits.hex_digit.Tie as tie
+use Rattle.text.proofs.digits.hex_digit.Statement.{statement}
+use Rattle.text.proofs.digits.hex_digit.Tie as tie
 
 add-result : tie.Need-add-result
 add-result c = search needs

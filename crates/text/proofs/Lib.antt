@@ -1,0 +1,6 @@
+pub mod Claimed
+pub mod Decimals
+pub mod HexPuts
+pub mod Laying
+pub mod Puts
+pub mod Spaces
