@@ -20,9 +20,10 @@ use Rattle.failures.specs.declared.record.Record.{Record}
 use Rattle.frame.specs.Bytes.{byte}
 use Rattle.population.specs.declared.places.Place.{Place}
 use Rattle.reader.specs.declared.tally.Tally.{Tally}
-use Rattle.report.specs.Lines.{dropLine, countsLine, lineFor, lineOf, ends}
+use Rattle.report.specs.Lines.{dropLine, lineFor, lineOf, ends}
 use Rattle.report.specs.Writing.{Line, Framed, Printable, Printed, OneLine}
 use Rattle.report.specs.declared.writing.Room.the-variants.{Enough}
+use Rattle.text.specs.Counts.{countsLine}
 
 pub printed-as : (o : Outcome) (input : List ℕ) (cursor : ℕ) (r : Called) (output : List ℕ) (at : ℕ) (before after : List ℕ) (next : ℕ) → r .outcome ≡ o
     → Line (lineFor o (take (r .length) output) (byte input cursor) (r .reader .tally) (length input - r .reader .cursor)) at before after next

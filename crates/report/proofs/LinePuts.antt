@@ -1,6 +1,6 @@
 -- The lines of the report, put piece behind piece.
 use Prim.Native.Nat.{ℕ, _+_, _*_, _≤_, _<_}
-use lib.ListN.{length, drop, set, getD, length-append, drop-of-length-le}
+use lib.ListN.{length, drop, set, getD, drop-of-length-le}
 use lib.Seq.{sets, drop-cons}
 use mathlib.Core.List.{List, [], _∷_, _++_}
 use mathlib.Core.Path.{_≡_, refl, ap, sym, _∙_}
@@ -9,65 +9,31 @@ use native.Mathlib.Omega.{arith}
 use Rattle.reader.specs.declared.tally.Tally.{Tally}
 use Rattle.frame.proofs.Stores.{sets-join}
 use Rattle.frame.specs.Putting.{Put}
-use Rattle.report.specs.Lines.{dropWord, goodWord, errorWord, droppedWord, spaceWord, leftWord, refusedWord, dropLine, separator, frameLine, countPart, twoCounts, tallyPart, countsLine, refusedLine}
+use Rattle.report.specs.Lines.{dropWord, dropLine, separator, frameLine}
 use Rattle.report.specs.Writing.{Line}
-use Rattle.text.proofs.Decimals.{decimal-64}
-use Rattle.text.proofs.Laying.{laid-put, join-laid}
+use Rattle.text.proofs.CountPuts.{counts-some, refused-some}
+use Rattle.text.proofs.Laying.{laid-put, within-put}
 use Rattle.text.proofs.Puts.{put-join, byte-put}
-use Rattle.text.specs.Digits.{hexByte, decimal}
-use Rattle.text.specs.Laying.{Laid}
-
--- ---- the counts
+use Rattle.text.specs.Counts.{countsLine, refusedLine}
+use Rattle.text.specs.Digits.{hexByte}
+use Rattle.text.specs.Laying.{Laid, LaidWithin}
 
 module _ (before : List ℕ) (at : ℕ) where
-  pub count-put : (word : List ℕ) (n : ℕ) (middle after : List ℕ) (next last : ℕ) → Laid word at before middle next → Laid (decimal n) next middle after last
-      → at + length word + 20 ≤ length before → n < 18446744073709551616 → Put (countPart word n) at before after last
-  unfolding countPart
-  count-put word n middle after next last first second room small =
-      join-laid word (decimal n) at before middle after next last (laid-put word at before middle next (omega arith) first) second
-      (omega (arith, decimal-64 n small))
+  -- ---- the counts and a refusal
 
-  pub count-most : (word : List ℕ) (n : ℕ) (after : List ℕ) (last : ℕ) → Put (countPart word n) at before after last → n < 18446744073709551616
-      → last ≤ at + length word + 20
-  unfolding countPart
-  count-most word n after last put small = omega (arith, put .next-is, length-append word (decimal n), decimal-64 n small)
+  within-line : (most : ℕ) (line after : List ℕ) (next : ℕ) → LaidWithin most line at before after next → at + 408 ≤ length before → most ≤ 408 → 0 < length line
+      → Line line at before after next
+  within-line most line after next laid room few some =
+      let put = within-put most line at before after next (omega arith) laid in
+      record { put = put; some = omega (arith, put .next-is); most = omega (arith, put .next-is, laid .short) }
 
-  pub two-put : (first : List ℕ) (m : ℕ) (second : List ℕ) (n : ℕ) (middle after : List ℕ) (next last : ℕ) → Put (countPart first m) at before middle next
-      → Put (countPart second n) next middle after last → Put (twoCounts first m second n) at before after last
-  unfolding twoCounts
-  two-put first m second n middle after next last = put-join (countPart first m) (countPart second n) at before middle after next last
+  pub counts-line : (t : Tally) (left : ℕ) (after : List ℕ) (next : ℕ) → LaidWithin 192 (countsLine t left) at before after next → at + 408 ≤ length before
+      → Line (countsLine t left) at before after next
+  counts-line t left after next laid room = within-line 192 (countsLine t left) after next laid room (omega arith) (counts-some t left)
 
-  pub tally-put : (t : Tally) (one two three after : List ℕ) (second third fourth last : ℕ)
-      → Put (twoCounts goodWord (t .good) errorWord (t .error)) at before one second
-      → Put (twoCounts droppedWord (t .header) spaceWord (t .kind)) second one two third
-      → Put (twoCounts spaceWord (t .long) spaceWord (t .check)) third two three fourth
-      → Put (countPart spaceWord (t .end)) fourth three after last
-      → Put (tallyPart t) at before after last
-  unfolding tallyPart
-  tally-put t one two three after second third fourth last a b c d =
-      put-join _ _ at before three after fourth last
-      (put-join _ _ at before two three third fourth (put-join _ _ at before one two second third a b) c) d
-
-  -- a piece, and the newline behind it
-  closed : (piece after : List ℕ) (last : ℕ) → Put piece at before after last → last + 1 ≤ at + 408 → Line (piece ++ (10 ∷ [])) at before (set after last 10) (last + 1)
-  closed piece after last put short =
-      record {
-        put = put-join piece (10 ∷ []) at before after (set after last 10) last (last + 1) put (byte-put 10 last after);
-        some = omega (arith, put .next-is);
-        most = short;
-      }
-
-  pub counts-put : (t : Tally) (left : ℕ) (middle after : List ℕ) (fourth last : ℕ) → Put (tallyPart t) at before middle fourth
-      → Put (countPart leftWord left) fourth middle after last → last + 1 ≤ at + 408 → Line (countsLine t left) at before (set after last 10) (last + 1)
-  unfolding countsLine
-  counts-put t left middle after fourth last counts l =
-      closed (tallyPart t ++ countPart leftWord left) after last
-      (put-join (tallyPart t) (countPart leftWord left) at before middle after fourth last counts l)
-
-  pub refused-put : (n : ℕ) (after : List ℕ) (last : ℕ) → Put (countPart refusedWord n) at before after last → last + 1 ≤ at + 408
-      → Line (refusedLine n) at before (set after last 10) (last + 1)
-  unfolding refusedLine
-  refused-put n = closed (countPart refusedWord n)
+  pub refused-line : (n : ℕ) (after : List ℕ) (next : ℕ) → LaidWithin 29 (refusedLine n) at before after next → at + 408 ≤ length before
+      → Line (refusedLine n) at before after next
+  refused-line n after next laid room = within-line 29 (refusedLine n) after next laid room (omega arith) (refused-some n)
 
   -- ---- a byte, and a separator behind it
 

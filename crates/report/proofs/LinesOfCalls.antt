@@ -2,9 +2,9 @@
 use Prim.Native.Nat.{ℕ, _-_, _≤_}
 use lib.Dec.{eqb}
 use lib.ListN.{length, take}
-use mathlib.Core.List.{List, [], _∷_, _++_, append-assoc}
+use mathlib.Core.List.{List}
 use mathlib.Core.Logic.{_≢_, ⊎-elim}
-use mathlib.Core.Path.{_≡_, refl, ap, sym, _∙_}
+use mathlib.Core.Path.{_≡_, refl, ap, _∙_}
 use native.Mathlib.Omega.{arith}
 use Rattle.calls.proofs.Claimed.{nothing-changes}
 use Rattle.calls.specs.Claims.{answerOf}
@@ -16,7 +16,9 @@ use Rattle.reader.specs.declared.tally.Tally.{Tally}
 use Rattle.frame.specs.Bytes.{pick, byte}
 use Rattle.frame.specs.declared.finding.Reason.the-variants.{NoHeader}
 use Rattle.report.specs.Claims.{FrameLines, DropLines, CountLines, CountsInOrder, RefusedLines}
-use Rattle.report.specs.Lines.{goodWord, errorWord, droppedWord, spaceWord, leftWord, frameLine, countPart, twoCounts, tallyPart, countsLine, refusedLine, lineFor, lineOf}
+use Rattle.report.specs.Lines.{lineFor, lineOf}
+use Rattle.text.proofs.Claimed as Text
+use Rattle.text.specs.Counts.{countsLine, refusedLine}
 
 -- an outcome that has a number; a line does not tell the reason of a drop
 outcomeOf : ℕ → Outcome
@@ -92,11 +94,5 @@ refused-lines input s h = of-refused _ _ _ _ (step (call input) s .outcome) h
 
 -- ---- the last line
 
-regroup : (a b c d e f g l n : List ℕ) → (((((a ++ b) ++ (c ++ d)) ++ (e ++ f)) ++ g) ++ l) ++ n ≡ a ++ (b ++ (c ++ (d ++ (e ++ (f ++ (g ++ (l ++ n)))))))
-regroup a b c d e f g l n = simp append-assoc
-
 pub counts-in-order : CountsInOrder
-unfolding goodWord errorWord droppedWord spaceWord leftWord countPart twoCounts tallyPart countsLine
-counts-in-order t left =
-    regroup (countPart goodWord (t .good)) (countPart errorWord (t .error)) (countPart droppedWord (t .header)) (countPart spaceWord (t .kind))
-    (countPart spaceWord (t .long)) (countPart spaceWord (t .check)) (countPart spaceWord (t .end)) (countPart leftWord left) (10 ∷ [])
+counts-in-order = Text.counts-in-order

@@ -3,8 +3,9 @@ use mathlib.Core.Path.{refl}
 use Rattle.calls.proofs.Computed.{opened as machine}
 use Rattle.calls.specs.Machine.{bytesLeft, tagsLeft, work, after}
 use Rattle.report.specs.Claims.{SampleReport, SampleImage, EmptyImage, EmptyCrate}
-use Rattle.report.specs.Lines.{dropWord, goodWord, errorWord, droppedWord, spaceWord, leftWord, refusedWord, tooLongLine, dropLine, separator, frameLine, countPart, twoCounts, tallyPart, countsLine, refusedLine, lineFor, lineOf, ends}
+use Rattle.report.specs.Lines.{dropWord, tooLongLine, dropLine, separator, frameLine, lineFor, lineOf, ends}
 use Rattle.report.specs.Report.{stepsBy, steps, stepsFrom, linesOf, reportFrom, lastState, anyLong, tooLong, placeIn, laidOut, placesOf, fresh, reportOf}
+use Rattle.text.specs.Counts.{goodWord, errorWord, droppedWord, spaceWord, leftWord, refusedWord, countPart, twoCounts, tallyPart, countsLine, refusedLine}
 use Rattle.text.specs.Digits.{hexDigit, hexByte, widthBy, width, digits, decimal}
 
 -- all that the report is made of beside the machine, opened at once

@@ -26,8 +26,9 @@ use Rattle.population.specs.declared.lowest.Lowest.the-variants.{NoTag}
 use Rattle.report.proofs.LinesOfCalls.{count-lines, refused-lines}
 use Rattle.report.proofs.Reports.{ends-is, report-over, report-more}
 use Rattle.report.specs.Claims.{TooLongReport, LineByLine, GoodCrateReport, BadCrateReport}
-use Rattle.report.specs.Lines.{refusedLine, lineOf, ends}
+use Rattle.report.specs.Lines.{lineOf}
 use Rattle.report.specs.Report.{linesOf, reportFrom, anyLong, tooLong, placesOf, fresh, reportOf}
+use Rattle.text.specs.Counts.{refusedLine}
 
 pub line-by-line : LineByLine
 line-by-line input s =

@@ -19,10 +19,11 @@ use Rattle.frame.specs.Frames.{sum}
 use Rattle.image.specs.Image.{good}
 use Rattle.population.specs.Places.{goodPopulation}
 use Rattle.reader.specs.declared.tally.Tally.{Tally}
-use Rattle.report.specs.Lines.{tooLongLine, dropLine, frameLine, countsLine, refusedLine, longestLine, lineOf}
+use Rattle.report.specs.Lines.{tooLongLine, dropLine, frameLine, longestLine, lineOf}
 use Rattle.report.specs.Pieces.{pieceOf, leftBy, overBy, pieces}
 use Rattle.report.specs.Report.{linesOf, reportFrom, lastState, tooLong, placesOf, fresh, reportOf, filesOf, noticeOf, printed}
 use Rattle.report.specs.declared.limits.Files.the-variants.{Fit}
+use Rattle.text.specs.Counts.{countsLine, refusedLine}
 use Rattle.text.specs.Digits.{decimal}
 
 -- ---- the report that document 01 prints

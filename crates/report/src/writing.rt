@@ -1,8 +1,6 @@
 // The report, written in pieces: each call of `write` fills a lent buffer with whole lines, and hands back where to go on.
-use crate::lines::put_counts;
 use crate::lines::put_drop;
 use crate::lines::put_frame;
-use crate::lines::put_refused;
 use calls::calling::Called;
 use failures::listing::call_beside;
 use failures::record::Record;
@@ -12,8 +10,11 @@ use frame::bytes::byte_at;
 use population::places::Place;
 use reader::outcome::Outcome;
 use reader::state::Reader;
+use text::counts::put_counts;
+use text::counts::put_refused;
+use text::putting::missing;
 ghost use mathlib.Core.Path.{_≡_};
-ghost use Prim.Native.Nat.{_+_, _-_, _≤_, _<_};
+ghost use Prim.Native.Nat.{_+_, _≤_, _<_};
 ghost use lib.ListN.{length};
 ghost use Rattle.report.specs.Lines.{longestLine, ends};
 ghost use Rattle.report.specs.Writing.{started, Printable, Printed, stateAt, OneLine, Wrote};
@@ -60,15 +61,6 @@ pub struct Written {
 // The longest line: a frame of 136 bytes, each with two digits and a separator.
 const LONGEST_LINE: usize = 408;
 
-fn remaining(all: usize, passed: usize) -> usize
-    ensures { λ r. ⌜ r ≡ all - passed ⌝ }
-{
-    if passed <= all {
-        return all - passed;
-    }
-    0
-}
-
 // The report ends with this call's line.
 fn is_last(outcome: Outcome) -> bool
     ensures { λ r. ⌜ r ≡ ends outcome ⌝ }
@@ -101,7 +93,7 @@ fn put_line(
     let outcome = called.outcome;
     let length = called.length;
     let reader = called.reader;
-    let left = remaining(input.len(), reader.cursor);
+    let left = missing(input.len(), reader.cursor);
     match outcome {
         Outcome::Answered => put_frame(buffer, at, &output[..length]),
         Outcome::Dropped(_) => put_drop(buffer, at, byte_at(input, cursor)),

@@ -12,7 +12,7 @@ use Rattle.frame.proofs.Stores.{length-put}
 use Rattle.frame.specs.Bytes.{reaches}
 use Rattle.frame.specs.Putting.{Put}
 use Rattle.text.proofs.Puts.{put-join}
-use Rattle.text.specs.Laying.{Laid}
+use Rattle.text.specs.Laying.{Laid, LaidWithin}
 
 module _ (piece : List ℕ) (at : ℕ) (before : List ℕ) where
   pub laid-put : (after : List ℕ) (result : ℕ) → at + length piece ≤ length before → Laid piece at before after result → Put piece at before after result
@@ -45,3 +45,26 @@ pub join-laid : (a b : List ℕ) (at : ℕ) (before middle after : List ℕ) (ne
 join-laid a b at before middle after next last first second room =
     put-join a b at before middle after next last first
     (laid-put b next middle after last (omega (arith, first .next-is, length-put a at before middle next first)) second)
+
+-- ---- a piece of at most so many bytes
+
+module _ (most : ℕ) (piece : List ℕ) (at : ℕ) (before : List ℕ) where
+  pub within-put : (after : List ℕ) (result : ℕ) → at + most ≤ length before → LaidWithin most piece at before after result → Put piece at before after result
+  within-put after result room laid =
+      let fits : reaches before at most ≡ true = there-reaches before at most room in
+      record {
+        output-is = laid .bytes-are ∙ simp (fits, pick-true);
+        next-is = laid .result-is ∙ simp (fits, pick-true);
+      }
+
+  pub put-within : (after : List ℕ) (result : ℕ) → reaches before at most ≡ true → length piece ≤ most → Put piece at before after result
+      → LaidWithin most piece at before after result
+  put-within after result fits short put =
+      record {
+        bytes-are = put .output-is ∙ simp (fits, pick-true);
+        result-is = put .next-is ∙ simp (fits, pick-true);
+        short = short;
+      }
+
+  pub none-within : reaches before at most ≡ false → length piece ≤ most → LaidWithin most piece at before before at
+  none-within none short = record { bytes-are = simp (none, pick-false); result-is = simp (none, pick-false); short = short }

@@ -1,4 +1,5 @@
 pub mod Claimed
+pub mod CountPuts
 pub mod Decimals
 pub mod HexPuts
 pub mod Laying

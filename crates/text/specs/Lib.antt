@@ -1,3 +1,4 @@
 pub mod Claims
+pub mod Counts
 pub mod Digits
 pub mod Laying

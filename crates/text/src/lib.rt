@@ -1,4 +1,5 @@
-// Text put into a lent buffer: words, spaces, and numbers in hex and decimal. Each function hands back the place behind what it put, and where that has no
-// room puts nothing.
+// Text put into a lent buffer: words, spaces, numbers in hex and decimal, and the lines that programs share. Each function hands back the place behind what
+// it put, and where that has no room puts nothing.
+pub mod counts;
 pub mod digits;
 pub mod putting;

@@ -5,13 +5,14 @@ use native.Mathlib.Omega.{arith}
 use Rattle.reader.specs.Outcomes.{numberOf}
 use Rattle.reader.specs.declared.outcome.Outcome.the-variants.{Answered, AtEnd, Incomplete, Dropped, PastEnd, BadImage, ShortOutput, FullTally, FullList}
 use Rattle.report.proofs.CallLines.{printed-as, drop-is, left-is}
+use Rattle.report.proofs.LinePuts.{counts-line, refused-line}
 use Rattle.report.specs.Lines.{lineFor}
 use borrow.Author.Needs.{needs}
 use Rattle.report.proofs.writing.put_line.Statement.{statement}
 use Rattle.report.proofs.writing.put_line.Tie as tie
 
-remaining-requires : tie.Need-remaining-requires
-remaining-requires c κs = search needs
+missing-requires : tie.Need-missing-requires
+missing-requires c κs = search needs
 
 enum-told : tie.Need-enum-told
 enum-told c = search needs
@@ -105,9 +106,10 @@ same-length-3 c = search needs
 returns-3 : tie.Need-returns-3
 unfolding lineFor
 returns-3 c =
-    let a = c .before .before .before .before .before .before .before .before .before .before .before .args in
+    let start = c .before .before .before .before .before .before .before .before .before .before .before in
+    let a = start .args in
     printed-as AtEnd (a .input .now) (a .cursor) (a .called) (a .output .now) _ _ _ _ (c .before .before .before .before .enum-told3 .given .1)
-    (left-is _ _ _ (c .before .before .before .before .before .before .remaining .ensures) (c .before .before .put-counts .ensures))
+    (left-is _ _ _ (c .before .before .before .before .before .before .missing .ensures) (counts-line _ _ _ _ _ _ (c .before .before .put-counts .ensures) (start .pre .room)))
 
 same-length-4 : tie.Need-same-length-4
 same-length-4 c = search needs
@@ -115,9 +117,10 @@ same-length-4 c = search needs
 returns-4 : tie.Need-returns-4
 unfolding lineFor
 returns-4 c =
-    let a = c .before .before .before .before .before .before .before .before .before .before .before .args in
+    let start = c .before .before .before .before .before .before .before .before .before .before .before in
+    let a = start .args in
     printed-as Incomplete (a .input .now) (a .cursor) (a .called) (a .output .now) _ _ _ _ (c .before .before .before .before .enum-told4 .given .1)
-    (left-is _ _ _ (c .before .before .before .before .before .before .remaining .ensures) (c .before .before .put-counts2 .ensures))
+    (left-is _ _ _ (c .before .before .before .before .before .before .missing .ensures) (counts-line _ _ _ _ _ _ (c .before .before .put-counts2 .ensures) (start .pre .room)))
 
 same-length-5 : tie.Need-same-length-5
 same-length-5 c = search needs
@@ -125,8 +128,9 @@ same-length-5 c = search needs
 returns-5 : tie.Need-returns-5
 unfolding lineFor numberOf
 returns-5 c =
-    let a = c .before .before .before .before .before .before .before .before .before .before .before .args in
-    printed-as PastEnd (a .input .now) (a .cursor) (a .called) (a .output .now) _ _ _ _ (c .before .before .before .before .enum-told5 .given .1) (c .before .before .put-refused .ensures)
+    let start = c .before .before .before .before .before .before .before .before .before .before .before in
+    let a = start .args in
+    printed-as PastEnd (a .input .now) (a .cursor) (a .called) (a .output .now) _ _ _ _ (c .before .before .before .before .enum-told5 .given .1) (refused-line _ _ _ _ _ (c .before .before .put-refused .ensures) (start .pre .room))
 
 same-length-6 : tie.Need-same-length-6
 same-length-6 c = search needs
@@ -134,8 +138,9 @@ same-length-6 c = search needs
 returns-6 : tie.Need-returns-6
 unfolding lineFor numberOf
 returns-6 c =
-    let a = c .before .before .before .before .before .before .before .before .before .before .before .args in
-    printed-as BadImage (a .input .now) (a .cursor) (a .called) (a .output .now) _ _ _ _ (c .before .before .before .before .enum-told6 .given .1) (c .before .before .put-refused2 .ensures)
+    let start = c .before .before .before .before .before .before .before .before .before .before .before in
+    let a = start .args in
+    printed-as BadImage (a .input .now) (a .cursor) (a .called) (a .output .now) _ _ _ _ (c .before .before .before .before .enum-told6 .given .1) (refused-line _ _ _ _ _ (c .before .before .put-refused2 .ensures) (start .pre .room))
 
 same-length-7 : tie.Need-same-length-7
 same-length-7 c = search needs
@@ -143,8 +148,9 @@ same-length-7 c = search needs
 returns-7 : tie.Need-returns-7
 unfolding lineFor numberOf
 returns-7 c =
-    let a = c .before .before .before .before .before .before .before .before .before .before .before .args in
-    printed-as ShortOutput (a .input .now) (a .cursor) (a .called) (a .output .now) _ _ _ _ (c .before .before .before .before .enum-told7 .given .1) (c .before .before .put-refused3 .ensures)
+    let start = c .before .before .before .before .before .before .before .before .before .before .before in
+    let a = start .args in
+    printed-as ShortOutput (a .input .now) (a .cursor) (a .called) (a .output .now) _ _ _ _ (c .before .before .before .before .enum-told7 .given .1) (refused-line _ _ _ _ _ (c .before .before .put-refused3 .ensures) (start .pre .room))
 
 same-length-8 : tie.Need-same-length-8
 same-length-8 c = search needs
@@ -152,8 +158,9 @@ same-length-8 c = search needs
 returns-8 : tie.Need-returns-8
 unfolding lineFor numberOf
 returns-8 c =
-    let a = c .before .before .before .before .before .before .before .before .before .before .before .args in
-    printed-as FullTally (a .input .now) (a .cursor) (a .called) (a .output .now) _ _ _ _ (c .before .before .before .before .enum-told8 .given .1) (c .before .before .put-refused4 .ensures)
+    let start = c .before .before .before .before .before .before .before .before .before .before .before in
+    let a = start .args in
+    printed-as FullTally (a .input .now) (a .cursor) (a .called) (a .output .now) _ _ _ _ (c .before .before .before .before .enum-told8 .given .1) (refused-line _ _ _ _ _ (c .before .before .put-refused4 .ensures) (start .pre .room))
 
 same-length-9 : tie.Need-same-length-9
 same-length-9 c = search needs
@@ -161,14 +168,15 @@ same-length-9 c = search needs
 returns-9 : tie.Need-returns-9
 unfolding lineFor numberOf
 returns-9 c =
-    let a = c .before .before .before .before .before .before .before .before .before .before .before .args in
-    printed-as FullList (a .input .now) (a .cursor) (a .called) (a .output .now) _ _ _ _ (c .before .before .before .before .enum-told9 .given .1) (c .before .before .put-refused5 .ensures)
+    let start = c .before .before .before .before .before .before .before .before .before .before .before in
+    let a = start .args in
+    printed-as FullList (a .input .now) (a .cursor) (a .called) (a .output .now) _ _ _ _ (c .before .before .before .before .enum-told9 .given .1) (refused-line _ _ _ _ _ (c .before .before .put-refused5 .ensures) (start .pre .room))
 
 pub put-line-spec : {M : Type 1} → statement M
 put-line-spec =
     tie.close
     (tie.spec
-    remaining-requires
+    missing-requires
     enum-told
     slice-aggregate-put-frame
     put-frame-requires

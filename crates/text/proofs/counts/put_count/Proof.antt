@@ -1,9 +1,9 @@
 -- `put_count` meets its contract: the word, then the number.
 use native.Mathlib.Omega.{arith}
-use Rattle.report.proofs.LinePuts.{count-put, count-most}
+use Rattle.text.proofs.CountPuts.{count-put, count-most}
 use borrow.Author.Needs.{needs}
-use Rattle.report.proofs.lines.put_count.Statement.{statement}
-use Rattle.report.proofs.lines.put_count.Tie as tie
+use Rattle.text.proofs.counts.put_count.Statement.{statement}
+use Rattle.text.proofs.counts.put_count.Tie as tie
 
 put-text-requires : tie.Need-put-text-requires
 put-text-requires c κs = search needs

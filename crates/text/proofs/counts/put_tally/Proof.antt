@@ -1,10 +1,10 @@
 -- `put_tally` meets its contract: the seven counts behind each other.
 use native.Mathlib.Omega.{arith}
-use Rattle.report.proofs.LinePuts.{tally-put}
-use Rattle.report.specs.Lines.{goodWord, errorWord, droppedWord, spaceWord}
+use Rattle.text.proofs.CountPuts.{tally-put}
+use Rattle.text.specs.Counts.{goodWord, errorWord, droppedWord, spaceWord}
 use borrow.Author.Needs.{needs}
-use Rattle.report.proofs.lines.put_tally.Statement.{statement}
-use Rattle.report.proofs.lines.put_tally.Tie as tie
+use Rattle.text.proofs.counts.put_tally.Statement.{statement}
+use Rattle.text.proofs.counts.put_tally.Tie as tie
 
 cast-good : tie.Need-cast-good
 cast-good c = search needs

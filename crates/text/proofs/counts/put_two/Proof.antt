@@ -1,9 +1,9 @@
 -- `put_two` meets its contract: one count behind the other.
 use native.Mathlib.Omega.{arith}
-use Rattle.report.proofs.LinePuts.{two-put}
+use Rattle.text.proofs.CountPuts.{two-put}
 use borrow.Author.Needs.{needs}
-use Rattle.report.proofs.lines.put_two.Statement.{statement}
-use Rattle.report.proofs.lines.put_two.Tie as tie
+use Rattle.text.proofs.counts.put_two.Statement.{statement}
+use Rattle.text.proofs.counts.put_two.Tie as tie
 
 put-count-requires : tie.Need-put-count-requires
 put-count-requires c κs = search needs
