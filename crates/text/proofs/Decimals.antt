@@ -84,7 +84,7 @@ pub digits-none : (left : ℕ) → digits 0 left ≡ []
 unfolding digits
 digits-none left = refl
 
-length-decimal : (n w : ℕ) → w ≡ width n → length (decimal n) ≡ w
+pub length-decimal : (n w : ℕ) → w ≡ width n → length (decimal n) ≡ w
 unfolding decimal
 length-decimal n w e = length-digits (width n) n ∙ sym e
 

@@ -5,3 +5,5 @@ pub mod HexPuts
 pub mod Laying
 pub mod Puts
 pub mod Spaces
+pub mod Told
+pub mod Written

@@ -28,7 +28,7 @@ pub fn put_hex(buffer: &mut [u8], at: usize, b: u8) -> usize
 }
 
 // How many decimal digits a number has.
-fn width(n: u64) -> usize
+pub fn width(n: u64) -> usize
     ensures { λ r. ⌜ r ≡ widthOf n ⌝ }
     ensures { λ r. ⌜ r ≤ 20 ⌝ }
 {
