@@ -5,6 +5,6 @@ pub mod commands;
 mod lock_acts;
 pub mod locks;
 mod new_locks;
-mod parsing;
+pub mod parsing;
 mod regions;
 mod word_acts;

@@ -107,7 +107,7 @@ fn parse_kill(p: &[u8]) -> Parsed
     }
 }
 
-pub(crate) fn parse_command(code: u8, parameters: &[u8]) -> Parsed
+pub fn parse_command(code: u8, parameters: &[u8]) -> Parsed
     ensures { λ r. ⌜ r ≡ parse code (now (parameters .entry)) ⌝ }
 {
     if code == 0x22 {

@@ -1,0 +1,195 @@
+-- The claims page of the rows: what stands in each column, as literal text. Each statement is proved in proofs/Claimed.antt.
+use Prim.Native.Nat.{ℕ, zero, suc, _+_, _%_, _≤_, _<_}
+use mathlib.Core.Bool.{Bool, true, _&&_, _||_}
+use mathlib.Core.List.{List, [], _∷_, _++_, map}
+use mathlib.Core.Path.{_≡_}
+use lib.Dec.{eqb, leb}
+use lib.ListN.{length}
+use Rattle.frame.specs.Bytes.{pick, byte}
+use Rattle.reader.specs.declared.tally.Tally.{Tally}
+use Rattle.rows.specs.Commands.{bankName, commandText}
+use Rattle.rows.specs.Errors.{errorText}
+use Rattle.rows.specs.Rows.{rangeText, bytesText, cellText, droppedIn, errorRow, dropRows, itemRows, waitingRow}
+use Rattle.rows.specs.declared.items.Item.{Item}
+use Rattle.tag.specs.declared.commands.Parsed.{Parsed}
+use Rattle.tag.specs.declared.commands.Parsed.the-variants.{Malformed, Inventory, Read, Write, Lock, Kill}
+use Rattle.text.specs.Digits.{decimal}
+use Rattle.text.specs.Words.{ascii}
+
+-- "Words for every error byte and reason of README's tables."
+abbrev pub ErrorTable : Type 0
+ErrorTable =
+    map errorText (0x17 ∷ 0x15 ∷ 0x09 ∷ 0x10 ∷ 0x13 ∷ 0x12 ∷ 0x16 ∷ 0xA3 ∷ 0xB3 ∷ 0xA4 ∷ 0xB4 ∷ 0xC3 ∷ 0xC4 ∷ 0xD0 ∷ [])
+    -- "the code is not listed, or a field of the command is wrong"
+    ≡ ascii "17 code not listed, or a wrong field"
+    -- "Inventory, Read, Write, Lock, Kill: no tag that matches is present"; "13 also: the tag is not secured for a Lock; 12 also: another kill password"
+    ∷ ascii "15 no tag present that matches"
+    ∷ ascii "09 no tag present that matches"
+    ∷ ascii "10 no tag present that matches"
+    ∷ ascii "13 no tag present, or not secured"
+    ∷ ascii "12 no tag, or another kill password"
+    -- "the access password is wrong"
+    ∷ ascii "16 wrong access password"
+    -- "the bank does not have these words; B3 also: a new PC whose length does not fit the EPC bank"
+    ∷ ascii "A3 the bank has no such words"
+    ∷ ascii "B3 no such words, or PC does not fit"
+    -- "a touched region is locked; B4 also: a Write names EPC word 0"
+    ∷ ascii "A4 region locked"
+    ∷ ascii "B4 region locked, or EPC word 0"
+    -- "the mask touches User, and the tag has no User words"
+    ∷ ascii "C3 the tag has no User words"
+    -- "a region whose permalock bit is set is asked to clear it, or to change its password bit alone"
+    ∷ ascii "C4 a permalocked region would change"
+    -- "no kill password is stored"
+    ∷ ascii "D0 no kill password is stored"
+    ∷ []
+
+-- "Bank numbers: 0 Reserved, 1 EPC, 2 TID, 3 User."
+abbrev pub BankNames : Type 0
+BankNames = map bankName (0 ∷ 1 ∷ 2 ∷ 3 ∷ []) ≡ ascii "Reserved" ∷ ascii "EPC" ∷ ascii "TID" ∷ ascii "User" ∷ []
+
+-- "The command is decoded from the input at the record's cursor: code, name, bank, pointer and count of a Read or Write, mask and action of a Lock": here for
+-- every password. "A malformed command shows its code and no fields."
+pub record CommandTable (password : ℕ) : Type 0 where
+  pub inventory : commandText 0x22 Inventory ≡ ascii "22 Inventory"
+  pub read : commandText 0x39 (Read password 3 7 2) ≡ ascii "39 Read User 7+2"
+  pub write : commandText 0x49 (Write password 1 65535 32) ≡ ascii "49 Write EPC 65535+32"
+  pub lock : commandText 0x82 (Lock password 0x203 0x080) ≡ ascii "82 Lock mask 0203 action 0080"
+  pub kill : commandText 0x65 (Kill password) ≡ ascii "65 Kill"
+  pub malformed : commandText 0x77 Malformed ≡ ascii "77"
+
+-- "Never a password": commands that differ in their passwords alone are shown the same.
+pub record NoPassword (code p q : ℕ) : Type 0 where
+  pub read : (bank pointer count : ℕ) → commandText code (Read p bank pointer count) ≡ commandText code (Read q bank pointer count)
+  pub write : (bank pointer count : ℕ) → commandText code (Write p bank pointer count) ≡ commandText code (Write q bank pointer count)
+  pub lock : (mask action : ℕ) → commandText code (Lock p mask action) ≡ commandText code (Lock q mask action)
+  pub kill : commandText code (Kill p) ≡ commandText code (Kill q)
+
+-- ---- whole rows
+
+-- An error answer: its number up to the fourth column, "Byte positions from 0", its command and its result, whatever its other fields hold.
+abbrev pub ErrorRowExample : Type 0
+ErrorRowExample =
+    (password last : ℕ) (drops : Tally)
+    → itemRows 1 (record { first = 41; last = last; error = 0xA3; drops = drops }) 0x39 (Read password 3 7 2)
+    ≡ ascii "   1   41           39 Read User 7+2              A3 the bank has no such words           [ ]   [ ]" ++ (10 ∷ [])
+
+-- the widest texts, and the shortest
+abbrev pub WideRowExample : Type 0
+WideRowExample =
+    (password last : ℕ) (drops : Tally)
+    → itemRows 1234 (record { first = 32767; last = last; error = 0xC4; drops = drops }) 0x82 (Lock password 0x203 0x080)
+    ≡ ascii "1234   32767        82 Lock mask 0203 action 0080 C4 a permalocked region would change    [ ]   [ ]" ++ (10 ∷ [])
+
+abbrev pub MalformedRowExample : Type 0
+MalformedRowExample =
+    (last : ℕ) (drops : Tally)
+    → itemRows 12 (record { first = 0; last = last; error = 0x17; drops = drops }) 0x77 Malformed
+    ≡ ascii "  12   0            77                            17 code not listed, or a wrong field    [ ]   [ ]" ++ (10 ∷ [])
+
+-- "Drops that follow one another, with no command between them, are one item, with their reasons summed.": of dropped bytes no command is shown, whatever is
+-- given for it, and no answer is counted. The bytes of a false header come first, and those with no header last.
+abbrev pub DropRowExample : Type 0
+DropRowExample =
+    (code : ℕ) (parsed : Parsed)
+    → itemRows 2 (record { first = 57; last = 63; error = 0; drops = record { good = 0; error = 0; header = 5; kind = 2; long = 0; check = 0; end = 0 } }) code parsed
+    ≡ ascii "   2   57-63        7 bytes dropped               2 wrong type      5 no header           [ ]   [ ]" ++ (10 ∷ [])
+
+abbrev pub OneByteExample : Type 0
+OneByteExample =
+    (code : ℕ) (parsed : Parsed)
+    → itemRows 3 (record { first = 9; last = 9; error = 0; drops = record { good = 0; error = 0; header = 0; kind = 0; long = 0; check = 0; end = 1 } }) code parsed
+    ≡ ascii "   3   9            1 byte dropped                1 wrong end                             [ ]   [ ]" ++ (10 ∷ [])
+
+-- all five reasons: only the first row has boxes
+abbrev pub FiveReasonsExample : Type 0
+FiveReasonsExample =
+    (code : ℕ) (parsed : Parsed)
+    → itemRows 10 (record { first = 100; last = 130; error = 0; drops = record { good = 64; error = 32; header = 1; kind = 2; long = 4; check = 8; end = 16 } }) code parsed
+    ≡ ascii "  10   100-130      31 bytes dropped              2 wrong type      4 too long            [ ]   [ ]"
+    ++ (10 ∷ [])
+    ++ ascii "                                                  8 wrong check     16 wrong end                   "
+    ++ (10 ∷ [])
+    ++ ascii "                                                  1 no header                                      "
+    ++ (10 ∷ [])
+
+-- the good and the error answers are no dropped bytes
+abbrev pub DroppedSum : Type 0
+DroppedSum = droppedIn (record { good = 64; error = 32; header = 1; kind = 2; long = 4; check = 8; end = 16 }) ≡ 31
+
+-- what waits has no number: five bytes from 64 on, with 69 bytes in all
+abbrev pub WaitingRowExample : Type 0
+WaitingRowExample = waitingRow 64 69 ≡ ascii "   -   64-68        5 bytes waiting               not a whole frame                       [ ]   [ ]" ++ (10 ∷ [])
+
+abbrev pub OneWaitsExample : Type 0
+OneWaitsExample = waitingRow 64 65 ≡ ascii "   -   64           1 byte waiting                not a whole frame                       [ ]   [ ]" ++ (10 ∷ [])
+
+-- ---- "fixed width, 100 columns at most"
+
+-- how many reasons some bytes were dropped for
+abbrev pub one : ℕ → ℕ
+one zero = 0
+one (suc n) = 1
+
+abbrev pub reasons : Tally → ℕ
+reasons t = one (t .header) + one (t .kind) + one (t .long) + one (t .check) + one (t .end)
+
+-- Every row has 99 columns and a newline.
+pub record RowsFit : Type 0 where
+  pub error : (n first code e : ℕ) (parsed : Parsed) → length (errorRow n first code parsed e) ≡ 100
+  pub waiting : (first behind : ℕ) → length (waitingRow first behind) ≡ 100
+  pub two-reasons : (n first last : ℕ) (t : Tally) → reasons t ≤ 2 → length (dropRows n first last t) ≡ 100
+  pub four-reasons : (n first last : ℕ) (t : Tally) → 2 < reasons t → reasons t ≤ 4 → length (dropRows n first last t) ≡ 200
+  pub five-reasons : (n first last : ℕ) (t : Tally) → 4 < reasons t → length (dropRows n first last t) ≡ 300
+
+-- The columns begin at 0, 7, 20 and 50, a second reason at 68, and the boxes at 90 and 96. With item numbers below 10,000 and positions below 32,768 a space is
+-- left before the next. A command has "pointer (2)" and "count .. 1 to 32".
+pub record ColumnsApart : Type 0 where
+  pub number : (n : ℕ) → n < 10000 → length (decimal n) ≤ 4
+  pub position : (first : ℕ) → first < 32768 → length (decimal first) ≤ 12
+  pub range : (first last : ℕ) → first < 32768 → last < 32768 → length (rangeText first last) ≤ 12
+  pub malformed : (code : ℕ) → length (commandText code Malformed) ≤ 29
+  pub inventory : (code : ℕ) → length (commandText code Inventory) ≤ 29
+  pub read : (code p bank pointer count : ℕ) → pointer < 65536 → count ≤ 32 → length (commandText code (Read p bank pointer count)) ≤ 29
+  pub write : (code p bank pointer count : ℕ) → pointer < 65536 → count ≤ 32 → length (commandText code (Write p bank pointer count)) ≤ 29
+  pub lock : (code p mask action : ℕ) → length (commandText code (Lock p mask action)) ≤ 29
+  pub kill : (code p : ℕ) → length (commandText code (Kill p)) ≤ 29
+  pub dropped : (n : ℕ) → n < 32769 → length (bytesText n ++ ascii " dropped") ≤ 29
+  pub waiting : (n : ℕ) → n < 32769 → length (bytesText n ++ ascii " waiting") ≤ 29
+  pub error : (e : ℕ) → length (errorText e) ≤ 36
+  pub reason : (n : ℕ) (word : List ℕ) → n < 32769 → length word ≤ 11 → length (cellText n word) ≤ 17
+
+-- "plain ASCII": newlines, and bytes from the space to `~`
+abbrev pub plain : List ℕ → Bool
+plain [] = true
+plain (b ∷ bytes) = (eqb b 10 || (leb 32 b && leb b 126)) && plain bytes
+
+-- whatever the numbers are; the code and the error are bytes
+pub record PlainText : Type 0 where
+  pub item : (n : ℕ) (i : Item) (code : ℕ) (parsed : Parsed) → code < 256 → i .error < 256 → plain (itemRows n i code parsed) ≡ true
+  pub waiting : (first behind : ℕ) → plain (waitingRow first behind) ≡ true
+
+-- In column 99 stands the newline of the row, and in every other a byte from the space to `~`.
+abbrev pub ruled : ℕ → List ℕ → Bool
+ruled at [] = true
+ruled at (b ∷ bytes) = pick (eqb (at % 100) 99) (eqb b 10) (leb 32 b && leb b 126) && ruled (suc at) bytes
+
+-- With item numbers below 10,000 and positions below 32,768 no text of a row is laid over its newline, and none brings another.
+pub record RowsRuled : Type 0 where
+  pub error : (n first code e : ℕ) (parsed : Parsed)
+      → n < 10000 → first < 32768 → code < 256 → e < 256 → length (commandText code parsed) ≤ 29 → ruled 0 (errorRow n first code parsed e) ≡ true
+  pub drops : (n first last : ℕ) (t : Tally)
+      → n < 10000 → first < 32768 → last < 32768 → droppedIn t < 32769 → ruled 0 (dropRows n first last t) ≡ true
+  pub waiting : (first behind : ℕ) → first < 32768 → behind ≤ 32768 → ruled 0 (waitingRow first behind) ≡ true
+
+-- What stands in the last twelve columns of the first row: the two boxes, and the newline.
+abbrev pub boxes : List ℕ → List ℕ
+boxes row = map (byte row) (88 ∷ 89 ∷ 90 ∷ 91 ∷ 92 ∷ 93 ∷ 94 ∷ 95 ∷ 96 ∷ 97 ∷ 98 ∷ 99 ∷ [])
+
+-- No text is laid over a box that is to be signed.
+pub record BoxesStay : Type 0 where
+  pub error : (n first code e : ℕ) (parsed : Parsed)
+      → n < 10000 → first < 32768 → length (commandText code parsed) ≤ 29 → boxes (errorRow n first code parsed e) ≡ ascii "  [ ]   [ ]" ++ (10 ∷ [])
+  pub drops : (n first last : ℕ) (t : Tally)
+      → n < 10000 → first < 32768 → last < 32768 → droppedIn t < 32769 → boxes (dropRows n first last t) ≡ ascii "  [ ]   [ ]" ++ (10 ∷ [])
+  pub waiting : (first behind : ℕ) → first < 32768 → behind ≤ 32768 → boxes (waitingRow first behind) ≡ ascii "  [ ]   [ ]" ++ (10 ∷ [])

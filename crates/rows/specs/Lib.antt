@@ -1,0 +1,5 @@
+pub mod Claims
+pub mod Columns
+pub mod Commands
+pub mod Errors
+pub mod Rows
