@@ -78,7 +78,7 @@ pieces-are-the-report commands memory sizes rooms short ended =
       sym (last-is commands (p .state)) ∙ ap (λ (b : Bool). lastState commands b (p .state)) (sym ended) ∙ all-steps commands rooms false s,
     )
 
-work-at-start : (commands memory sizes : List ℕ) → work commands (fresh memory sizes) ≡ length commands + 15 * (length commands / 7)
+pub work-at-start : (commands memory sizes : List ℕ) → work commands (fresh memory sizes) ≡ length commands + 15 * (length commands / 7)
 unfolding fresh work bytesLeft tagsLeft
 work-at-start commands memory sizes = rw (none-waits memory sizes, sub-zero) (omega arith)
 

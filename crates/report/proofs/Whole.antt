@@ -45,11 +45,11 @@ module _ (input : List ℕ) where
       (λ h. omega (arith, few k (step (call input) s .next)))
       (λ h. omega (arith, few k (step (call input) s .next)))
 
-  record Taken (k : ℕ) (s : State) : Type 0 where
-    first : takes (step (call input) s) ≡ true
-    rest : count takes (run (replicate k (call input)) (step (call input) s .next)) ≡ k
+  pub record Taken (k : ℕ) (s : State) : Type 0 where
+    pub first : takes (step (call input) s) ≡ true
+    pub rest : count takes (run (replicate k (call input)) (step (call input) s .next)) ≡ k
 
-  all-taken : (k : ℕ) (s : State) → count takes (run (replicate (suc k) (call input)) s) ≡ suc k → Taken k s
+  pub all-taken : (k : ℕ) (s : State) → count takes (run (replicate (suc k) (call input)) s) ≡ suc k → Taken k s
   unfolding run count
   all-taken k s =
       either (takes (step (call input) s))
@@ -86,7 +86,7 @@ unfolding reportOf
 too-long-report commands memory sizes h = simp (h, pick-true)
 
 -- a call answered 1 or 2 takes no bytes
-ends-by : (x : Step) → (numberOf (x .outcome) ≡ 1) ⊎ (numberOf (x .outcome) ≡ 2) → takes x ≡ false
+pub ends-by : (x : Step) → (numberOf (x .outcome) ≡ 1) ⊎ (numberOf (x .outcome) ≡ 2) → takes x ≡ false
 unfolding takes
 ends-by x = ⊎-elim (λ one. simp one) (λ two. simp two)
 
@@ -95,7 +95,7 @@ module _ (commands memory sizes : List ℕ) (short : tooLong (length commands) s
   unfolding reportOf
   report-is = simp (short, pick-false)
 
-  few-bytes : length commands ≤ 32768
+  pub few-bytes : length commands ≤ 32768
   unfolding tooLong
   few-bytes = ltb-false 32768 (length commands) (or-neither (ltb 32768 (length commands)) (anyLong sizes) short .0)
 

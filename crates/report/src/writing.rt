@@ -62,7 +62,7 @@ pub struct Written {
 const LONGEST_LINE: usize = 408;
 
 // The report ends with this call's line.
-fn is_last(outcome: Outcome) -> bool
+pub fn is_last(outcome: Outcome) -> bool
     ensures { λ r. ⌜ r ≡ ends outcome ⌝ }
 {
     match outcome {

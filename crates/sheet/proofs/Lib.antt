@@ -1,0 +1,17 @@
+pub mod Balancing
+pub mod Calling
+pub mod Claimed
+pub mod FootTexts
+pub mod HeadPuts
+pub mod Heads
+pub mod Itemising
+pub mod Joining
+pub mod Measuring
+pub mod Numbered
+pub mod Ordering
+pub mod Parts
+pub mod Secrets
+pub mod Sheets
+pub mod Summing
+pub mod Taken
+pub mod Tellings

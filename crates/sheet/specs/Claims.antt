@@ -1,0 +1,220 @@
+-- The claims page of the sheet: its items, and its head. Each statement is proved in proofs/Claimed.antt.
+use Prim.Native.Nat.{ℕ, zero, suc, _+_, _-_, _*_, _/_, _%_, _≤_, _<_}
+use mathlib.Core.Bool.{Bool, true, false}
+use mathlib.Core.List.{List, [], _∷_, _++_}
+use mathlib.Core.Logic.{_⊎_}
+use mathlib.Core.Path.{_≡_}
+use lib.ListN.{length, drop, replicate}
+use Rattle.calls.specs.Claims.{inventories, Premises, withMemory}
+use Rattle.calls.specs.Machine.{State, call, step, work}
+use Rattle.calls.specs.Secrecy.{accepted}
+use Rattle.frame.specs.Finding.{find}
+use Rattle.frame.specs.Formats.{commands}
+use Rattle.frame.specs.declared.finding.Found.the-variants.{End, Drop, Wait, Accept}
+use Rattle.frame.specs.declared.finding.Reason.{Reason}
+use Rattle.frame.specs.declared.finding.Reason.the-variants.{NoHeader, WrongType, TooLong, WrongCheck, WrongEnd}
+use Rattle.population.specs.Places.{goodPopulation}
+use Rattle.reader.specs.Tallies.{freshTally}
+use Rattle.reader.specs.declared.tally.Tally.{Tally}
+use Rattle.report.specs.Lines.{ends}
+use Rattle.report.specs.Report.{tooLong, placesOf, fresh}
+use Rattle.rows.specs.Rows.{droppedIn}
+use Rattle.rows.specs.declared.items.Item.{Item}
+use Rattle.sheet.specs.Head.{commandsIn, tagName, fileText, commandsText, tagLines, headOf}
+use Rattle.sheet.specs.Itemised.{advanced, itemised, rowsFrom, faults, allFaults}
+use Rattle.sheet.specs.Sheet.{Standing, standingOf, foot, endFor, teller, begunOn, sheetOf, printedSheet}
+use Rattle.sheet.specs.declared.items.Items.{Items}
+use Rattle.text.specs.Digits.{decimal}
+use Rattle.text.specs.Telling.{textFrom, fill, pieces}
+use Rattle.text.specs.Words.{ascii}
+
+-- The finding rules alone say how many commands were taken: an accepted frame is one, a dropped byte is none, and the count ends where the rules do.
+pub record ByTheRules (rest : List ℕ) : Type 0 where
+  pub at-end : find commands rest ≡ End → commandsIn rest ≡ 0
+  pub waiting : find commands rest ≡ Wait → commandsIn rest ≡ 0
+  pub dropped : (r : Reason) → find commands rest ≡ Drop r → commandsIn rest ≡ commandsIn (drop 1 rest)
+  pub accepted : (pl : ℕ) → find commands rest ≡ Accept pl → commandsIn rest ≡ 1 + commandsIn (drop (7 + pl) rest)
+
+abbrev pub CommandsTaken : Type 0
+CommandsTaken = (rest : List ℕ) → ByTheRules rest
+
+-- ` command taken` for one, ` commands taken` for any other number, behind a comma and a space
+abbrev pub OneCommand : Type 0
+OneCommand = commandsText 1 ≡ 44 ∷ 32 ∷ 49 ∷ 32 ∷ 99 ∷ 111 ∷ 109 ∷ 109 ∷ 97 ∷ 110 ∷ 100 ∷ 32 ∷ 116 ∷ 97 ∷ 107 ∷ 101 ∷ 110 ∷ []
+
+abbrev pub MoreCommands : Type 0
+MoreCommands =
+    (n : ℕ) → (n ≡ 1 → ⊥)
+    → commandsText n ≡ (44 ∷ 32 ∷ []) ++ decimal n ++ (32 ∷ 99 ∷ 111 ∷ 109 ∷ 109 ∷ 97 ∷ 110 ∷ 100 ∷ 115 ∷ 32 ∷ 116 ∷ 97 ∷ 107 ∷ 101 ∷ 110 ∷ [])
+
+-- `tag.img`, and of a crate `tag-00.img` and so on
+abbrev pub OneName : Type 0
+OneName = (i : ℕ) → tagName false i ≡ 116 ∷ 97 ∷ 103 ∷ 46 ∷ 105 ∷ 109 ∷ 103 ∷ []
+
+abbrev pub CrateNames : Type 0
+CrateNames = (i : ℕ) → tagName true i ≡ 116 ∷ 97 ∷ 103 ∷ 45 ∷ (48 + i / 10) ∷ (48 + i % 10) ∷ 46 ∷ 105 ∷ 109 ∷ 103 ∷ []
+
+-- A name and a length that have room in twenty columns stand at the left and at the right of them, with spaces between; then comes the unit.
+abbrev pub columns : List ℕ → ℕ → List ℕ
+columns name size = name ++ replicate (20 - length name - length (decimal size)) 32 ++ decimal size
+
+pub record FileLine (name : List ℕ) (size : ℕ) : Type 0 where
+  pub one : size ≡ 1 → fileText name size ≡ columns name size ++ (32 ∷ 98 ∷ 121 ∷ 116 ∷ 101 ∷ [])
+  pub more : (size ≡ 1 → ⊥) → fileText name size ≡ columns name size ++ (32 ∷ 98 ∷ 121 ∷ 116 ∷ 101 ∷ 115 ∷ [])
+
+abbrev pub FileLines : Type 0
+FileLines = (name : List ℕ) (size : ℕ) → length name + length (decimal size) ≤ 20 → FileLine name size
+
+-- The head: the title, the commands, a line for each tag, a blank line, and the names of the columns.
+abbrev pub HeadLines : Type 0
+HeadLines =
+    (isCrate : Bool) (input sizes : List ℕ)
+    → headOf isCrate input sizes
+    ≡ (80 ∷ 79 ∷ 76 ∷ 68 ∷ 82 ∷ 73 ∷ 83 ∷ 75 ∷ 32 ∷ 70 ∷ 65 ∷ 73 ∷ 76 ∷ 85 ∷ 82 ∷ 69 ∷ 32 ∷ 83 ∷ 72 ∷ 69 ∷ 69 ∷ 84 ∷ 10 ∷ [])
+    ++ fileText (99 ∷ 111 ∷ 109 ∷ 109 ∷ 97 ∷ 110 ∷ 100 ∷ 115 ∷ 46 ∷ 98 ∷ 105 ∷ 110 ∷ []) (length input)
+    ++ commandsText (commandsIn input)
+    ++ (10 ∷ [])
+    ++ tagLines isCrate 0 sizes
+    ++ (10 ∷ 73 ∷ 84 ∷ 69 ∷ 77 ∷ 32 ∷ 32 ∷ 32 ∷ 66 ∷ 89 ∷ 84 ∷ 69 ∷ 32 ∷ 32 ∷ 32 ∷ 32 ∷ 32 ∷ 32 ∷ 32 ∷ 32 ∷ 32 ∷ 67 ∷ 79 ∷ 77 ∷ 77 ∷ 65 ∷ 78 ∷ 68 ∷ 32 ∷ 32 ∷ 32 ∷ 32 ∷ 32 ∷ 32 ∷ 32 ∷ 32 ∷ 32 ∷ 32 ∷ 32 ∷ 32 ∷ 32 ∷ 32 ∷ 32 ∷ 32 ∷ 32 ∷ 32 ∷ 32 ∷ 32 ∷ 32 ∷ 32 ∷ 32 ∷ 82 ∷ 69 ∷ 83 ∷ 85 ∷ 76 ∷ 84 ∷ 32 ∷ 32 ∷ 32 ∷ 32 ∷ 32 ∷ 32 ∷ 32 ∷ 32 ∷ 32 ∷ 32 ∷ 32 ∷ 32 ∷ 32 ∷ 32 ∷ 32 ∷ 32 ∷ 32 ∷ 32 ∷ 32 ∷ 32 ∷ 32 ∷ 32 ∷ 32 ∷ 32 ∷ 32 ∷ 32 ∷ 32 ∷ 32 ∷ 32 ∷ 32 ∷ 32 ∷ 32 ∷ 77 ∷ 69 ∷ 65 ∷ 78 ∷ 84 ∷ 32 ∷ 70 ∷ 65 ∷ 85 ∷ 76 ∷ 84 ∷ 10 ∷ [])
+
+abbrev pub TagLines : Type 0
+TagLines =
+    (isCrate : Bool) (i size : ℕ) (sizes : List ℕ)
+    → tagLines isCrate i (size ∷ sizes) ≡ fileText (tagName isCrate i) size ++ (10 ∷ []) ++ tagLines isCrate (i + 1) sizes
+
+-- ---- the items
+
+-- "Eleven failures were missing from that report." After any number of calls, from a standing with no items, the items stand for exactly the failures of these calls,
+-- each once and in their order: every error answer with its place and its byte, and every dropped byte.
+abbrev pub EveryFailureOnce : Type 0
+EveryFailureOnce = (k : ℕ) (input : List ℕ) (s : Standing) → s .items .count ≡ 0 → allFaults (itemised k input s) ≡ faults k input (s .bench)
+
+-- the sheet goes on for k calls, and the next one ends it
+unfoldable pub goesOn : ℕ → List ℕ → State → Type 0
+goesOn zero input s = ends (step (call input) s .outcome) ≡ true
+goesOn (suc k) input s = (ends (step (call input) s .outcome) ≡ false) × goesOn k input (step (call input) s .next)
+
+-- The text is the rows of these items, numbered from 1, and then what ends it: no row is missing, and there is no other.
+abbrev pub RowForEachItem : Type 0
+RowForEachItem =
+    (k : ℕ) (input : List ℕ) (s : Standing)
+    → s .items .count ≡ 0
+    → k < 18446744073709551615
+    → goesOn k input (s .bench)
+    → textFrom (teller input) false s
+    ≡ rowsFrom 1 input (itemised k input s)
+    ++ endFor input (step (call input) (advanced k input s .bench) .next .reader) (advanced k input s .items)
+    (step (call input) (advanced k input s .bench) .outcome)
+
+-- the number that the foot tells is that of the rows
+abbrev pub ItemsCounted : Type 0
+ItemsCounted =
+    (k : ℕ) (input : List ℕ) (s : Standing) → s .items .count ≡ 0 → k < 18446744073709551615 → length (itemised k input s) ≡ advanced k input s .items .count
+
+-- the counts that the foot prints after k calls
+abbrev pub countsAfter : ℕ → List ℕ → Standing → Tally
+countsAfter k input s = advanced k input s .bench .reader .tally
+
+-- "the balance line holds": the number that `FAILURES 11 = ERROR 4 + DROPPED 7, ITEMS 5` begins with is that of the failures that the items stand for
+abbrev pub BalanceHolds : Type 0
+BalanceHolds =
+    (k : ℕ) (commands memory sizes : List ℕ)
+    → length (allFaults (itemised k commands (begunOn memory sizes)))
+    ≡ countsAfter k commands (begunOn memory sizes) .error + droppedIn (countsAfter k commands (begunOn memory sizes))
+
+-- the count of a reason, and its sum over items
+unfoldable pub reasonCount : Reason → Tally → ℕ
+reasonCount NoHeader t = t .header
+reasonCount WrongType t = t .kind
+reasonCount TooLong t = t .long
+reasonCount WrongCheck t = t .check
+reasonCount WrongEnd t = t .end
+
+unfoldable pub summed : Reason → List Item → ℕ
+summed r [] = 0
+summed r (item ∷ items) = reasonCount r (item .drops) + summed r items
+
+-- "with their reasons summed": of each reason the items show together as many drops as the foot counts
+abbrev pub ReasonsSummed : Type 0
+ReasonsSummed =
+    (r : Reason) (k : ℕ) (commands memory sizes : List ℕ)
+    → summed r (itemised k commands (begunOn memory sizes)) ≡ reasonCount r (countsAfter k commands (begunOn memory sizes))
+
+-- an item is one error answer, without a reason, or the bytes that were dropped from its first to its last, each counted under its reason
+abbrev pub OneAnswer : Item → Type 0
+OneAnswer item = (item .drops ≡ freshTally) × (item .last ≡ item .first)
+
+abbrev pub DroppedBytes : Item → Type 0
+DroppedBytes item = (item .error ≡ 0) × (droppedIn (item .drops) ≡ item .last + 1 - item .first)
+
+unfoldable pub eachOne : List Item → Type 0
+eachOne [] = Unit
+eachOne (item ∷ items) = (OneAnswer item ⊎ DroppedBytes item) × eachOne items
+
+abbrev pub BytesOfDrops : Type 0
+BytesOfDrops = (k : ℕ) (commands memory sizes : List ℕ) → eachOne (itemised k commands (begunOn memory sizes))
+
+-- each item begins behind the end of the one before, and the first no earlier than `from`
+unfoldable pub inOrder : ℕ → List Item → Type 0
+inOrder from [] = Unit
+inOrder from (item ∷ items) = (from ≤ item .first) × ((item .first ≤ item .last) × inOrder (item .last + 1) items)
+
+-- "items are in rising order of position", from the cursor on at which the first call begins
+abbrev pub Rising : Type 0
+Rising = (k : ℕ) (input : List ℕ) (s : Standing) → s .items .count ≡ 0 → inOrder (s .bench .reader .cursor) (itemised k input s)
+
+-- ---- the passwords
+
+-- "the sheet of two runs under demand 3's premises is the same text": of the run from s, which goes on for k calls and is ended by the next one, and of the run that
+-- has the memory n in the place of its own
+abbrev pub SameSheet : Type 0
+SameSheet =
+    (k : ℕ) (input : List ℕ) (s : State) (n : List ℕ) (differs : ℕ → Bool) (items : Items)
+    → Premises s n differs (replicate (suc k) (call input)) (withMemory s n)
+    → goesOn k input s
+    → textFrom (teller input) false (standingOf s items) ≡ textFrom (teller input) false (standingOf (withMemory s n) items)
+
+-- ---- the whole sheet, and its pieces
+
+-- On a good crate it is the head, a row for each item of the run, numbered from 1, and the foot, whose last line is `END OF SHEET`: k calls take something, and
+-- the next one is answered 1 or 2.
+abbrev pub GoodCrateSheet : Type 0
+GoodCrateSheet =
+    (isCrate : Bool) (commands memory sizes : List ℕ)
+    → tooLong (length commands) sizes ≡ false
+    → goodPopulation memory (length sizes) (placesOf sizes) ≡ true
+    → (k : ℕ)
+    × (k ≤ length commands + 15 * inventories (accepted (replicate k (call commands)) (fresh memory sizes)))
+    × goesOn k commands (fresh memory sizes)
+    × (sheetOf isCrate commands memory sizes
+    ≡ headOf isCrate commands sizes
+    ++ (rowsFrom 1 commands (itemised k commands (begunOn memory sizes))
+    ++ foot commands (advanced k commands (begunOn memory sizes) .bench .reader) (advanced k commands (begunOn memory sizes) .items)))
+
+-- "`REFUSED n`, `TOO LONG`, `UNREADABLE`: that one line"
+abbrev pub NoSheet : Type 0
+NoSheet =
+    (isCrate : Bool) (commands memory sizes : List ℕ)
+    → (printedSheet false isCrate commands memory sizes ≡ ascii "UNREADABLE" ++ (10 ∷ []))
+    × ((tooLong (length commands) sizes ≡ true → sheetOf isCrate commands memory sizes ≡ ascii "TOO LONG" ++ (10 ∷ []))
+    × (tooLong (length commands) sizes ≡ false → goodPopulation memory (length sizes) (placesOf sizes) ≡ false
+    → sheetOf isCrate commands memory sizes ≡ ascii "REFUSED 11" ++ (10 ∷ [])))
+
+-- The bytes of a piece, followed by the text from where it left off, are the text from where it began; pieces one behind the other are the text once it is over,
+-- and it comes to that.
+abbrev pub PieceByPiece : Type 0
+PieceByPiece =
+    (input : List ℕ) (room : ℕ) (over : Bool) (s : Standing)
+    → fill (teller input) 1024 room over s .bytes
+    ++ textFrom (teller input) (fill (teller input) 1024 room over s .over) (fill (teller input) 1024 room over s .state)
+    ≡ textFrom (teller input) over s
+
+abbrev pub PiecesAreTheText : Type 0
+PiecesAreTheText =
+    (input rooms : List ℕ) (s : Standing)
+    → pieces (teller input) 1024 rooms false s .over ≡ true
+    → pieces (teller input) 1024 rooms false s .bytes ≡ textFrom (teller input) false s
+
+abbrev pub EnoughPieces : Type 0
+EnoughPieces =
+    (input : List ℕ) (room : ℕ) (s : Standing) → 1024 ≤ room → pieces (teller input) 1024 (replicate (suc (work input (s .bench))) room) false s .over ≡ true

@@ -1,0 +1,5 @@
+// The sheet that is signed: every failure of a run, item by item.
+pub mod foot;
+pub mod head;
+pub mod items;
+pub mod telling;
