@@ -3,7 +3,7 @@ use Prim.Native.Nat.{ℕ, suc, _+_, _*_, _≤_, _<_}
 use borrow.Author.Tests.{ltb-true, ltb-false, lt-ltb, le-ltb}
 use lib.Dec.{ltb}
 use lib.ListN.{length, take, getD, set, replicate}
-use mathlib.Core.Bool.{false}
+use mathlib.Core.Bool.{Bool, true, false}
 use mathlib.Core.List.{List}
 use mathlib.Core.Path.{_≡_, refl, ap, sym, _∙_}
 use native.Mathlib.Omega.{arith}
@@ -14,7 +14,7 @@ use Rattle.population.specs.Places.{nowhere}
 use Rattle.population.specs.declared.places.Place.{Place}
 use Rattle.report.proofs.Laid.{sum-next}
 use Rattle.report.proofs.NotRun.{each-short}
-use Rattle.report.specs.Report.{anyLong, placeIn, laidOut, placesOf}
+use Rattle.report.specs.Report.{anyLong, tooLong, placeIn, laidOut, placesOf}
 
 -- ---- how many have a place
 
@@ -74,3 +74,20 @@ module _ (sizes : List ℕ) (placed : ℕ) (is : placed ≡ pick (ltb 16 (length
   all-laid places from i l h =
       let last : i ≡ placed = omega (arith, l .within) in
       l .laid ∙ ap (laidOut sizes) (last ∙ is)
+
+-- ---- sizes of any length
+
+module _ (sizes : List ℕ) (long : Bool) (is : long ≡ tooLong 0 sizes) where
+  -- no command is no long one: the sizes alone are tested
+  sizes-only : long ≡ anyLong sizes
+  unfolding tooLong
+  sizes-only = is
+
+  pub none-placed : long ≡ true → replicate 16 nowhere ≡ pick (anyLong sizes) (replicate 16 nowhere) (placesOf sizes)
+  none-placed h = sym (simp (sym sizes-only ∙ h, pick-true))
+
+  pub none-long : long ≡ false → anyLong sizes ≡ false
+  none-long h = sym sizes-only ∙ h
+
+  pub placed-each : (places : List Place) → long ≡ false → places ≡ placesOf sizes → places ≡ pick (anyLong sizes) (replicate 16 nowhere) (placesOf sizes)
+  placed-each places h laid = laid ∙ sym (simp (none-long h, pick-false))

@@ -11,7 +11,7 @@ ghost use Prim.Native.Nat.{_≤_};
 ghost use lib.ListN.{length};
 ghost use Rattle.console.specs.Console.{Ran, RanFrom};
 
-mod places;
+pub mod places;
 
 // Piece by piece. Where standard output refuses some of the report, nothing more is written, so that no report ends with its counts and
 // lacks a line.
@@ -48,10 +48,8 @@ fn print_pieces(
     true
 }
 
-// The line of files that are not run.
-fn print_notice(files: Files, buffer: &mut [u8]) -> bool
-    requires { ⌜ 408 ≤ length (now buffer) ⌝ }
-{
+// The line of files that are not run, by way of a lent buffer.
+pub fn print_notice(files: Files, buffer: &mut [u8]) -> bool {
     let used = write_notice(files, buffer);
     io::write_all(STDOUT_FILENO, &buffer[..used])
 }

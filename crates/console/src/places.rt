@@ -1,9 +1,12 @@
 // Where the tags lie in the memory: one behind the other.
 use population::places::Place;
+use report::limits::too_long;
 ghost use mathlib.Core.Bool.{false};
 ghost use mathlib.Core.Path.{_≡_};
 ghost use lib.Dec.{ltb};
+ghost use lib.ListN.{replicate};
 ghost use Rattle.frame.specs.Bytes.{pick};
+ghost use Rattle.population.specs.Places.{nowhere};
 ghost use Rattle.report.specs.Report.{anyLong, placesOf};
 
 // Of more than sixteen tags only these have a place, and the call says that they are too many.
@@ -32,4 +35,14 @@ pub(crate) fn lay_out(sizes: &[u64]) -> [Place; 16]
         i += 1;
     }
     places
+}
+
+// The same for any sizes: where a tag has more bytes than it may, none has a place. No command is asked about, so their length is given as 0.
+pub fn places_of(sizes: &[u64]) -> [Place; 16]
+    ensures { λ r. ⌜ r ≡ pick (anyLong (now (sizes .entry))) (replicate 16 nowhere) (placesOf (now (sizes .entry))) ⌝ }
+{
+    if too_long(0, sizes) {
+        return [Place { from: 0, size: 0 }; 16];
+    }
+    lay_out(sizes)
 }

@@ -1,5 +1,7 @@
-// A file, read into a lent buffer.
+// A file, read into a lent buffer; and the files of a crate of tags.
 ghost use Rattle.io.specs.Counts.{Counts};
+
+pub mod tags;
 
 // Whether the file was opened, how many bytes stand at the start of the buffer, and whether no read failed. A file that is longer than the buffer is read
 // as far as the buffer goes.

@@ -1,8 +1,6 @@
 // The program for a crate of tags: reads commands.bin and the files tag-00.img to tag-15.img from the folder that it is run in, and prints the report.
-mod tags;
-
 use files::read_file;
-use tags::read_tags;
+use files::tags::read_tags;
 
 // Each buffer has room for more than the files may have, so that one that is too long is seen to be.
 fn main() {

@@ -1,14 +1,21 @@
 -- Files that are read one behind the other: where the next one begins, and that it has room.
-use Prim.Native.Nat.{ℕ, suc, _+_, _*_, _≤_, _<_}
-use lib.ListN.{length, take, set, length-set}
+use Prim.Native.Nat.{ℕ, zero, suc, _+_, _*_, _≤_, _<_}
+use lib.ListN.{length, take, getD, set, length-set}
 use lib.Seq.{take-all, take-set-le, getD-set-same}
-use mathlib.Core.List.{List}
+use mathlib.Core.List.{List, [], _∷_}
 use mathlib.Core.Path.{_≡_, refl, ap, sym, _∙_}
 use native.Mathlib.Omega.{arith}
 use Rattle.frame.specs.Frames.{sum}
 use Rattle.io.proofs.Counting.{counts}
 use Rattle.io.specs.Counts.{Counts}
-use Rattle.report.proofs.Laid.{sum-next}
+
+-- one file more
+sum-next : (sizes : List ℕ) (i : ℕ) → sum (take (suc i) sizes) ≡ sum (take i sizes) + getD sizes i 0
+unfolding sum
+sum-next [] zero = refl
+sum-next [] (suc i) = refl
+sum-next (n ∷ sizes) zero = omega arith
+sum-next (n ∷ sizes) (suc i) = omega (arith, sum-next sizes i)
 
 -- the first i files are read; the next one begins at `at`
 pub record FilesRead (memory₀ sizes₀ memory sizes : List ℕ) (count at i : ℕ) : Type 0 where

@@ -1,10 +1,10 @@
--- `read_tags` meets its contract: each file is read behind the one before it, and has room there.
+-- `read_into` meets its contract: each file is read behind the one before it, and has room there.
 use Prim.Native.Nat.{_-_}
 use native.Mathlib.Omega.{arith}
-use Rattle.poldrisk_crate.proofs.Reading.{FilesRead, none-read, one-more, all-read}
+use Rattle.files.proofs.Reading.{FilesRead, none-read, one-more, all-read}
 use borrow.Author.Needs.{needs}
-use Rattle.poldrisk_crate.proofs.tags.read_tags.Statement.{statement}
-use Rattle.poldrisk_crate.proofs.tags.read_tags.Tie as tie
+use Rattle.files.proofs.tags.read_into.Statement.{statement}
+use Rattle.files.proofs.tags.read_into.Tie as tie
 
 abbrev Inv-loop : tie.InvT-loop
 Inv-loop memory₀ sizes₀ count₀ at₀ readable₀ i₀ memory sizes count at readable i = FilesRead memory₀ sizes₀ memory sizes count at i
@@ -79,8 +79,8 @@ same-length-2 c = c .before .loop .inv .same-sizes
 returns : tie.Need-returns Inv-loop μ-loop
 returns c = all-read _ _ _ _ _ _ _ (c .before .loop .inv) (c .loop-test .left)
 
-pub read-tags-spec : {M : Type 1} → statement M
-read-tags-spec =
+pub read-into-spec : {M : Type 1} → statement M
+read-into-spec =
     tie.close
     (tie.spec
     Inv-loop

@@ -1,5 +1,5 @@
 // The tags' files, read into one memory, one behind the other.
-use files::read_file;
+use crate::read_file;
 ghost use mathlib.Core.Path.{_≡_};
 ghost use Prim.Native.Nat.{_<_};
 ghost use lib.ListN.{length};
@@ -26,9 +26,7 @@ fn name_of(number: usize) -> [u8; 10]
     name
 }
 
-// "The number of tags is one more than the highest number from 00 to 16 whose file can be opened": a seventeenth is looked for, so that it is seen that they
-// are too many. A file below that can't be opened counts as empty.
-pub(crate) fn read_tags(memory: &mut [u8], sizes: &mut [u64]) -> Tags
+fn read_into(memory: &mut [u8], sizes: &mut [u64]) -> Tags
     requires { ⌜ length (now memory) ≡ 65536 ⌝ }
     requires { ⌜ length (now sizes) ≡ 17 ⌝ }
     ensures { λ r. ⌜ Counts (r .count) (now (sizes .exit)) ⌝ }
@@ -55,4 +53,14 @@ pub(crate) fn read_tags(memory: &mut [u8], sizes: &mut [u64]) -> Tags
         length: at,
         readable,
     }
+}
+
+// "The number of tags is one more than the highest number from 00 to 16 whose file can be opened": a seventeenth is looked for, so that it is seen that they
+// are too many. A file below that can't be opened counts as empty.
+pub fn read_tags(memory: &mut [u8; 65536], sizes: &mut [u64; 17]) -> Tags
+    ensures { λ r. ⌜ Counts (r .count) (now (sizes .exit)) ⌝ }
+    ensures { λ r. ⌜ Counts (r .length) (now (memory .exit)) ⌝ }
+    ensures { λ r. ⌜ r .length ≡ sum (now (sizes .exit)) ⌝ }
+{
+    read_into(memory, sizes)
 }
