@@ -14,11 +14,12 @@ use Rattle.sheet.proofs.Itemising as Itemising
 use Rattle.sheet.proofs.Measuring as Measuring
 use Rattle.sheet.proofs.Numbered as Numbered
 use Rattle.sheet.proofs.Ordering as Ordering
+use Rattle.sheet.proofs.Sampled as Sampled
 use Rattle.sheet.proofs.Secrets as Secrets
 use Rattle.sheet.proofs.Sheets as Sheets
 use Rattle.sheet.proofs.Summing as Summing
 use Rattle.sheet.proofs.Taken.{unrolled}
-use Rattle.sheet.specs.Claims.{CommandsTaken, OneCommand, MoreCommands, OneName, CrateNames, columns, FileLines, HeadLines, TagLines, EveryFailureOnce, RowForEachItem, ItemsCounted, BalanceHolds, ReasonsSummed, BytesOfDrops, Rising, SameSheet, GoodCrateSheet, NoSheet, PieceByPiece, PiecesAreTheText, EnoughPieces}
+use Rattle.sheet.specs.Claims.{CommandsTaken, OneCommand, MoreCommands, OneName, CrateNames, columns, FileLines, HeadLines, TagLines, EveryFailureOnce, RowForEachItem, ItemsCounted, BalanceHolds, ReasonsSummed, BytesOfDrops, Rising, SameSheet, GoodCrateSheet, NoSheet, PieceByPiece, PiecesAreTheText, EnoughPieces, FootLines, WhatWaits, SampleSheet}
 use Rattle.sheet.specs.Head.{takenFor, commandsIn, tagName, fileText, commandsText, tagLines, titleLine, columnLines, headOf}
 use Rattle.text.proofs.Decimals.{one-digit}
 use Rattle.text.proofs.Spaces.{length-spaces}
@@ -149,3 +150,14 @@ pieces-are-the-text = Sheets.pieces-are-the-text
 
 pub enough-pieces : EnoughPieces
 enough-pieces = Sheets.enough-pieces
+
+-- ---- the foot, and a sheet as literal text
+
+pub foot-lines : FootLines
+foot-lines = Sampled.foot-lines
+
+pub what-waits : WhatWaits
+what-waits = Sampled.what-waits
+
+pub sample-sheet : SampleSheet
+sample-sheet = Sampled.sample-sheet

@@ -10,6 +10,7 @@ pub mod Measuring
 pub mod Numbered
 pub mod Ordering
 pub mod Parts
+pub mod Sampled
 pub mod Secrets
 pub mod Sheets
 pub mod Summing

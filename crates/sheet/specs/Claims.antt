@@ -13,17 +13,21 @@ use Rattle.frame.specs.Formats.{commands}
 use Rattle.frame.specs.declared.finding.Found.the-variants.{End, Drop, Wait, Accept}
 use Rattle.frame.specs.declared.finding.Reason.{Reason}
 use Rattle.frame.specs.declared.finding.Reason.the-variants.{NoHeader, WrongType, TooLong, WrongCheck, WrongEnd}
+use Rattle.effects.specs.Sample.{sample}
 use Rattle.population.specs.Places.{goodPopulation}
 use Rattle.reader.specs.Tallies.{freshTally}
+use Rattle.reader.specs.declared.state.Reader.{Reader}
 use Rattle.reader.specs.declared.tally.Tally.{Tally}
+use Rattle.report.specs.Claims.{sampleCommands}
 use Rattle.report.specs.Lines.{ends}
 use Rattle.report.specs.Report.{tooLong, placesOf, fresh}
-use Rattle.rows.specs.Rows.{droppedIn}
+use Rattle.rows.specs.Rows.{droppedIn, waitingRow}
 use Rattle.rows.specs.declared.items.Item.{Item}
 use Rattle.sheet.specs.Head.{commandsIn, tagName, fileText, commandsText, tagLines, headOf}
 use Rattle.sheet.specs.Itemised.{advanced, itemised, rowsFrom, faults, allFaults}
-use Rattle.sheet.specs.Sheet.{Standing, standingOf, foot, endFor, teller, begunOn, sheetOf, printedSheet}
+use Rattle.sheet.specs.Sheet.{Standing, standingOf, waitingRows, foot, endFor, teller, begunOn, sheetOf, printedSheet}
 use Rattle.sheet.specs.declared.items.Items.{Items}
+use Rattle.text.specs.Counts.{countsLine}
 use Rattle.text.specs.Digits.{decimal}
 use Rattle.text.specs.Telling.{textFrom, fill, pieces}
 use Rattle.text.specs.Words.{ascii}
@@ -218,3 +222,48 @@ PiecesAreTheText =
 abbrev pub EnoughPieces : Type 0
 EnoughPieces =
     (input : List ℕ) (room : ℕ) (s : Standing) → 1024 ≤ room → pieces (teller input) 1024 (replicate (suc (work input (s .bench))) room) false s .over ≡ true
+
+-- ---- the foot, and a sheet as literal text
+
+-- what waits, a blank line, the counts of the report, the balance, a line for the names and the last line
+abbrev pub FootLines : Type 0
+FootLines =
+    (input : List ℕ) (reader : Reader) (items : Items)
+    → foot input reader items
+    ≡ waitingRows (reader .cursor) (length input)
+    ++ (10 ∷ [])
+    ++ countsLine (reader .tally) (length input - reader .cursor)
+    ++ ((ascii "FAILURES " ++ decimal (reader .tally .error + droppedIn (reader .tally)))
+    ++ (ascii " = ERROR " ++ decimal (reader .tally .error))
+    ++ (ascii " + DROPPED " ++ decimal (droppedIn (reader .tally)))
+    ++ (ascii ", ITEMS " ++ decimal (items .count))
+    ++ (10 ∷ []))
+    ++ ((10 ∷ [])
+    ++ ascii "Line builder ______________________   Inspector ______________________   Date ____________"
+    ++ (10 ∷ [])
+    ++ (ascii "END OF SHEET" ++ (10 ∷ [])))
+
+-- the bytes from the cursor on wait, where there are some
+pub record WaitingRows (cursor size : ℕ) : Type 0 where
+  pub none : size ≤ cursor → waitingRows cursor size ≡ []
+  pub some : cursor < size → waitingRows cursor size ≡ waitingRow cursor size
+
+abbrev pub WhatWaits : Type 0
+WhatWaits = (cursor size : ℕ) → WaitingRows cursor size
+
+-- the sheet of document 01's sample: a byte that is dropped, and a Kill that is answered well
+abbrev pub SampleSheet : Type 0
+SampleSheet =
+    sheetOf false sampleCommands sample (86 ∷ [])
+    ≡ (ascii "POLDRISK FAILURE SHEET" ++ (10 ∷ []))
+    ++ (ascii "commands.bin      12 bytes, 1 command taken" ++ (10 ∷ []))
+    ++ (ascii "tag.img           86 bytes" ++ (10 ∷ []))
+    ++ ((10 ∷ []))
+    ++ (ascii "ITEM   BYTE         COMMAND                       RESULT                                MEANT FAULT" ++ (10 ∷ []))
+    ++ (ascii "   1   0            1 byte dropped                1 no header                             [ ]   [ ]" ++ (10 ∷ []))
+    ++ ((10 ∷ []))
+    ++ (ascii "GOOD 1 ERROR 0 DROPPED 1 0 0 0 0 LEFT 0" ++ (10 ∷ []))
+    ++ (ascii "FAILURES 1 = ERROR 0 + DROPPED 1, ITEMS 1" ++ (10 ∷ []))
+    ++ ((10 ∷ []))
+    ++ (ascii "Line builder ______________________   Inspector ______________________   Date ____________" ++ (10 ∷ []))
+    ++ (ascii "END OF SHEET" ++ (10 ∷ []))
