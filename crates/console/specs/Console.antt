@@ -9,7 +9,9 @@ use lib.ListN.{length, replicate}
 use Rattle.calls.specs.Machine.{State, stateOf, call, after}
 use Rattle.population.specs.declared.places.Place.{Place}
 use Rattle.reader.specs.Readers.{freshReader}
-use Rattle.report.specs.Report.{stepsFrom, lastState, fresh, filesOf}
+use Rattle.report.specs.Report.{stepsFrom, lastState, fresh, filesOf, noticeOf}
+use Rattle.report.specs.Writing.{Told}
+use Rattle.report.specs.declared.limits.Files.{Files}
 use Rattle.report.specs.declared.limits.Files.the-variants.{Fit}
 
 -- a run from the state s that leaves the memory `left`
@@ -23,6 +25,11 @@ begun memory places tags output = stateOf memory places tags [] output freshRead
 
 abbrev pub RanFrom : List ℕ → List ℕ → List Place → ℕ → List ℕ → List ℕ → Bool → Type 0
 RanFrom commands memory places tags output left whole = RunFrom commands (begun memory places tags output) left whole
+
+-- The line of files that are not run stands at the start of the buffer, where it has room; where files are run, or it has none, nothing is stored.
+pub record Noticed (files : Files) (before after : List ℕ) : Type 0 where
+  pub used : ℕ
+  pub told : Told (noticeOf files) before after used
 
 pub record Ran (readable : Bool) (commands memory sizes left : List ℕ) (whole : Bool) : Type 0 where
   pub not-run : filesOf readable (length commands) sizes ≢ Fit → left ≡ memory

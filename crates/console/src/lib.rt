@@ -9,7 +9,7 @@ use report::writing::Progress;
 use report::writing::write;
 ghost use Prim.Native.Nat.{_≤_};
 ghost use lib.ListN.{length};
-ghost use Rattle.console.specs.Console.{Ran, RanFrom};
+ghost use Rattle.console.specs.Console.{Ran, RanFrom, Noticed};
 
 pub mod places;
 
@@ -48,8 +48,10 @@ fn print_pieces(
     true
 }
 
-// The line of files that are not run, by way of a lent buffer.
-pub fn print_notice(files: Files, buffer: &mut [u8]) -> bool {
+// The line of files that are not run, by way of a lent buffer. The result says whether standard output took it.
+pub fn print_notice(files: Files, buffer: &mut [u8]) -> bool
+    ensures { λ _. ⌜ Noticed files (now (buffer .entry)) (now (buffer .exit)) ⌝ }
+{
     let used = write_notice(files, buffer);
     io::write_all(STDOUT_FILENO, &buffer[..used])
 }

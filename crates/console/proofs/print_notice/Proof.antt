@@ -26,7 +26,9 @@ same-length : tie.Need-same-length
 same-length c = search needs
 
 returns : tie.Need-returns
-returns c = search needs
+returns c =
+    let made = c .before .before .before .before .write-notice in
+    record { used = _; told = made .ensures }
 
 pub print-notice-spec : {M : Type 1} → statement M
 print-notice-spec =
