@@ -7,7 +7,7 @@ use mathlib.Core.Path.{_≡_}
 use native.Mathlib.Omega.{arith}
 use Rattle.frame.proofs.Picks.{pick-false}
 use Rattle.frame.specs.Putting.{Put}
-use Rattle.rows.proofs.Chains.{PutBy, laid-by, join-by, more-by, hex-short}
+use Rattle.text.proofs.Chains.{PutBy, laid-by, join-by, more-by, hex-short}
 use Rattle.rows.specs.Commands.{bankName, aimText, bitsText, lockText, fieldsText, commandText}
 use Rattle.tag.specs.declared.commands.Parsed.{Parsed}
 use Rattle.text.proofs.Decimals.{decimal-64}

@@ -10,7 +10,7 @@ use native.Mathlib.Omega.{arith}
 use Rattle.frame.proofs.Picks.{by-test}
 use Rattle.frame.proofs.Tests.{and-left, and-right}
 use Rattle.frame.specs.Bytes.{firstOf}
-use Rattle.rows.proofs.Chains.{PutBy, laid-by, more-by, hex-short}
+use Rattle.text.proofs.Chains.{PutBy, laid-by, more-by, hex-short}
 use Rattle.rows.specs.Errors.{tagWords, errorWords, errorText}
 use Rattle.text.specs.Digits.{hexByte}
 use Rattle.text.specs.Laying.{Laid}

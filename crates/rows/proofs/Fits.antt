@@ -11,7 +11,7 @@ use Rattle.frame.proofs.Picks.{by-test, pick-true, pick-false}
 use Rattle.frame.proofs.Tests.{either}
 use Rattle.frame.specs.Bytes.{pick}
 use Rattle.reader.specs.declared.tally.Tally.{Tally}
-use Rattle.rows.proofs.Chains.{hex-short}
+use Rattle.text.proofs.Chains.{hex-short}
 use Rattle.rows.proofs.ErrorTexts.{error-words-short}
 use Rattle.rows.proofs.Layers.{length-boxed, length-two, length-three}
 use Rattle.rows.proofs.Reasons.{some-shown, length-reasons}

@@ -13,7 +13,7 @@ use Rattle.frame.proofs.Tests.{either}
 use Rattle.frame.specs.Bytes.{pick}
 use Rattle.frame.specs.Putting.{Put}
 use Rattle.reader.specs.declared.tally.Tally.{Tally}
-use Rattle.rows.proofs.Overlays.{overlay}
+use Rattle.text.proofs.Overlays.{overlay}
 use Rattle.rows.specs.Columns.{boxedRow, plainRow, blankRows, numberPlace, numbered}
 use Rattle.rows.specs.Rows.{isSome, reasonsIn, cellPlace, cellText, withCell, withReasons}
 use Rattle.text.proofs.Laying.{laid-put}

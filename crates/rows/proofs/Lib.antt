@@ -1,12 +1,10 @@
 pub mod Boxes
-pub mod Chains
 pub mod Choices
 pub mod Claimed
 pub mod CommandTexts
 pub mod ErrorTexts
 pub mod Fits
 pub mod Layers
-pub mod Overlays
 pub mod Plain
 pub mod Printed
 pub mod Reasons

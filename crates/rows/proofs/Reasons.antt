@@ -11,7 +11,7 @@ use Rattle.frame.proofs.Picks.{by-test, pick-true, pick-false}
 use Rattle.frame.specs.Bytes.{pick}
 use Rattle.frame.specs.Putting.{Put}
 use Rattle.reader.specs.declared.tally.Tally.{Tally}
-use Rattle.rows.proofs.Chains.{laid-by, more-by}
+use Rattle.text.proofs.Chains.{laid-by, more-by}
 use Rattle.rows.proofs.Layers.{blank-long, cell}
 use Rattle.rows.specs.Columns.{blankRows}
 use Rattle.rows.specs.Rows.{isSome, reasonsIn, cellPlace, cellText, withCell, withReasons}

@@ -12,7 +12,7 @@ use Rattle.frame.proofs.Picks.{by-test, pick-true, pick-false}
 use Rattle.frame.specs.Bytes.{pick}
 use Rattle.frame.specs.Putting.{Put}
 use Rattle.reader.specs.declared.tally.Tally.{Tally}
-use Rattle.rows.proofs.Chains.{PutBy, laid-by, more-by}
+use Rattle.text.proofs.Chains.{PutBy, laid-by, more-by}
 use Rattle.rows.proofs.Layers.{length-boxed, blank-long, blank-least, blank-most, Based, lay, number}
 use Rattle.rows.proofs.Reasons.{some-one, length-reasons, Short, reasons-put}
 use Rattle.rows.specs.Columns.{boxedRow, blankRows, numberPlace, numbered}

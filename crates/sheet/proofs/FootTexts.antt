@@ -14,7 +14,7 @@ use Rattle.frame.specs.Putting.{Put}
 use Rattle.reader.specs.declared.outcome.Outcome.{Outcome}
 use Rattle.reader.specs.declared.state.Reader.{Reader}
 use Rattle.reader.specs.declared.tally.Tally.{Tally}
-use Rattle.rows.proofs.Chains.{PutBy, laid-by, join-by, more-by}
+use Rattle.text.proofs.Chains.{PutBy, laid-by, join-by, more-by}
 use Rattle.rows.specs.Rows.{droppedIn, waitingRow}
 use Rattle.sheet.specs.Sheet.{failuresLine, nameLine, endLine, signatureLines, waitingRows, foot, endFor}
 use Rattle.sheet.specs.declared.items.Items.{Items}

@@ -2,8 +2,6 @@ pub mod Balancing
 pub mod Calling
 pub mod Claimed
 pub mod FootTexts
-pub mod HeadPuts
-pub mod Heads
 pub mod Itemising
 pub mod Joining
 pub mod Measuring
@@ -14,5 +12,4 @@ pub mod Sampled
 pub mod Secrets
 pub mod Sheets
 pub mod Summing
-pub mod Taken
 pub mod Tellings

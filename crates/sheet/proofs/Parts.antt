@@ -16,7 +16,7 @@ use Rattle.frame.proofs.Picks.{pick-true, pick-false}
 use Rattle.frame.specs.Bytes.{pick, number, part}
 use Rattle.frame.specs.Putting.{Put}
 use Rattle.report.specs.Lines.{ends}
-use Rattle.rows.proofs.Chains.{PutBy, join-by}
+use Rattle.text.proofs.Chains.{PutBy, join-by}
 use Rattle.rows.specs.Rows.{itemRows}
 use Rattle.sheet.proofs.FootTexts.{none-by, within-by}
 use Rattle.sheet.specs.Items.{failing, itemsAfter, closes}

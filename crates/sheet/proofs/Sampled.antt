@@ -10,7 +10,9 @@ use Rattle.report.specs.Report.{anyLong, tooLong, placeIn, laidOut, placesOf, f
 use Rattle.rows.specs.Columns.{boxedRow, plainRow, numberPlace, numbered, blankRows}
 use Rattle.rows.specs.Rows.{rangeText, bytesText, isSome, reasonsIn, cellPlace, cellText, withCell, withReasons, droppedIn, dropRows, itemRows, waitingRow}
 use Rattle.sheet.specs.Claims.{FootLines, WhatWaits, SampleSheet}
-use Rattle.sheet.specs.Head.{takenFor, takenBy, commandsIn, tagName, fileText, commandsText, tagLines, titleLine, columnLines, headOf}
+use Rattle.head.specs.Commands.{takenFor, takenBy, commandsIn, commandsText}
+use Rattle.head.specs.Files.{tagName, fileText, tagLines}
+use Rattle.head.specs.Head.{titleLine, columnLines, headOf}
 use Rattle.sheet.specs.Items.{failing, joins, grown, oneMore, itemsAfter, closes}
 use Rattle.sheet.specs.Sheet.{commandWith, commandAt, lastRows, failuresLine, nameLine, endLine, signatureLines, waitingRows, foot, endFor, itemsBy, isTold, partFor, teller, sheetOf}
 use Rattle.text.specs.Counts.{goodWord, errorWord, droppedWord, spaceWord, leftWord, countPart, twoCounts, tallyPart, countsLine}

@@ -25,7 +25,7 @@ use Rattle.report.specs.Report.{tooLong, placesOf, fresh}
 use Rattle.sheet.proofs.Numbered.{row-for-each-item}
 use Rattle.sheet.proofs.Tellings.{falls}
 use Rattle.sheet.specs.Claims.{goesOn, GoodCrateSheet, NoSheet, PieceByPiece, PiecesAreTheText, EnoughPieces}
-use Rattle.sheet.specs.Head.{headOf}
+use Rattle.head.specs.Head.{headOf}
 use Rattle.sheet.specs.Itemised.{advanced, itemised, rowsFrom}
 use Rattle.sheet.specs.Sheet.{Standing, foot, endFor, teller, begunOn, sheetOf, printedSheet}
 use Rattle.sheet.specs.declared.items.Items.{Items}

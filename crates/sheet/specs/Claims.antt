@@ -1,4 +1,4 @@
--- The claims page of the sheet: its items, and its head. Each statement is proved in proofs/Claimed.antt.
+-- The claims page of the sheet: its items, its rows and its foot. Each statement is proved in proofs/Claimed.antt.
 use Prim.Native.Nat.{ℕ, zero, suc, _+_, _-_, _*_, _/_, _%_, _≤_, _<_}
 use mathlib.Core.Bool.{Bool, true, false}
 use mathlib.Core.List.{List, [], _∷_, _++_}
@@ -8,9 +8,6 @@ use lib.ListN.{length, drop, replicate}
 use Rattle.calls.specs.Claims.{inventories, Premises, withMemory}
 use Rattle.calls.specs.Machine.{State, call, step, work}
 use Rattle.calls.specs.Secrecy.{accepted}
-use Rattle.frame.specs.Finding.{find}
-use Rattle.frame.specs.Formats.{commands}
-use Rattle.frame.specs.declared.finding.Found.the-variants.{End, Drop, Wait, Accept}
 use Rattle.frame.specs.declared.finding.Reason.{Reason}
 use Rattle.frame.specs.declared.finding.Reason.the-variants.{NoHeader, WrongType, TooLong, WrongCheck, WrongEnd}
 use Rattle.effects.specs.Sample.{sample}
@@ -23,7 +20,7 @@ use Rattle.report.specs.Lines.{ends}
 use Rattle.report.specs.Report.{tooLong, placesOf, fresh}
 use Rattle.rows.specs.Rows.{droppedIn, waitingRow}
 use Rattle.rows.specs.declared.items.Item.{Item}
-use Rattle.sheet.specs.Head.{commandsIn, tagName, fileText, commandsText, tagLines, headOf}
+use Rattle.head.specs.Head.{headOf}
 use Rattle.sheet.specs.Itemised.{advanced, itemised, rowsFrom, faults, allFaults}
 use Rattle.sheet.specs.Sheet.{Standing, standingOf, waitingRows, foot, endFor, teller, begunOn, sheetOf, printedSheet}
 use Rattle.sheet.specs.declared.items.Items.{Items}
@@ -31,60 +28,6 @@ use Rattle.text.specs.Counts.{countsLine}
 use Rattle.text.specs.Digits.{decimal}
 use Rattle.text.specs.Telling.{textFrom, fill, pieces}
 use Rattle.text.specs.Words.{ascii}
-
--- The finding rules alone say how many commands were taken: an accepted frame is one, a dropped byte is none, and the count ends where the rules do.
-pub record ByTheRules (rest : List ℕ) : Type 0 where
-  pub at-end : find commands rest ≡ End → commandsIn rest ≡ 0
-  pub waiting : find commands rest ≡ Wait → commandsIn rest ≡ 0
-  pub dropped : (r : Reason) → find commands rest ≡ Drop r → commandsIn rest ≡ commandsIn (drop 1 rest)
-  pub accepted : (pl : ℕ) → find commands rest ≡ Accept pl → commandsIn rest ≡ 1 + commandsIn (drop (7 + pl) rest)
-
-abbrev pub CommandsTaken : Type 0
-CommandsTaken = (rest : List ℕ) → ByTheRules rest
-
--- ` command taken` for one, ` commands taken` for any other number, behind a comma and a space
-abbrev pub OneCommand : Type 0
-OneCommand = commandsText 1 ≡ 44 ∷ 32 ∷ 49 ∷ 32 ∷ 99 ∷ 111 ∷ 109 ∷ 109 ∷ 97 ∷ 110 ∷ 100 ∷ 32 ∷ 116 ∷ 97 ∷ 107 ∷ 101 ∷ 110 ∷ []
-
-abbrev pub MoreCommands : Type 0
-MoreCommands =
-    (n : ℕ) → (n ≡ 1 → ⊥)
-    → commandsText n ≡ (44 ∷ 32 ∷ []) ++ decimal n ++ (32 ∷ 99 ∷ 111 ∷ 109 ∷ 109 ∷ 97 ∷ 110 ∷ 100 ∷ 115 ∷ 32 ∷ 116 ∷ 97 ∷ 107 ∷ 101 ∷ 110 ∷ [])
-
--- `tag.img`, and of a crate `tag-00.img` and so on
-abbrev pub OneName : Type 0
-OneName = (i : ℕ) → tagName false i ≡ 116 ∷ 97 ∷ 103 ∷ 46 ∷ 105 ∷ 109 ∷ 103 ∷ []
-
-abbrev pub CrateNames : Type 0
-CrateNames = (i : ℕ) → tagName true i ≡ 116 ∷ 97 ∷ 103 ∷ 45 ∷ (48 + i / 10) ∷ (48 + i % 10) ∷ 46 ∷ 105 ∷ 109 ∷ 103 ∷ []
-
--- A name and a length that have room in twenty columns stand at the left and at the right of them, with spaces between; then comes the unit.
-abbrev pub columns : List ℕ → ℕ → List ℕ
-columns name size = name ++ replicate (20 - length name - length (decimal size)) 32 ++ decimal size
-
-pub record FileLine (name : List ℕ) (size : ℕ) : Type 0 where
-  pub one : size ≡ 1 → fileText name size ≡ columns name size ++ (32 ∷ 98 ∷ 121 ∷ 116 ∷ 101 ∷ [])
-  pub more : (size ≡ 1 → ⊥) → fileText name size ≡ columns name size ++ (32 ∷ 98 ∷ 121 ∷ 116 ∷ 101 ∷ 115 ∷ [])
-
-abbrev pub FileLines : Type 0
-FileLines = (name : List ℕ) (size : ℕ) → length name + length (decimal size) ≤ 20 → FileLine name size
-
--- The head: the title, the commands, a line for each tag, a blank line, and the names of the columns.
-abbrev pub HeadLines : Type 0
-HeadLines =
-    (isCrate : Bool) (input sizes : List ℕ)
-    → headOf isCrate input sizes
-    ≡ (80 ∷ 79 ∷ 76 ∷ 68 ∷ 82 ∷ 73 ∷ 83 ∷ 75 ∷ 32 ∷ 70 ∷ 65 ∷ 73 ∷ 76 ∷ 85 ∷ 82 ∷ 69 ∷ 32 ∷ 83 ∷ 72 ∷ 69 ∷ 69 ∷ 84 ∷ 10 ∷ [])
-    ++ fileText (99 ∷ 111 ∷ 109 ∷ 109 ∷ 97 ∷ 110 ∷ 100 ∷ 115 ∷ 46 ∷ 98 ∷ 105 ∷ 110 ∷ []) (length input)
-    ++ commandsText (commandsIn input)
-    ++ (10 ∷ [])
-    ++ tagLines isCrate 0 sizes
-    ++ (10 ∷ 73 ∷ 84 ∷ 69 ∷ 77 ∷ 32 ∷ 32 ∷ 32 ∷ 66 ∷ 89 ∷ 84 ∷ 69 ∷ 32 ∷ 32 ∷ 32 ∷ 32 ∷ 32 ∷ 32 ∷ 32 ∷ 32 ∷ 32 ∷ 67 ∷ 79 ∷ 77 ∷ 77 ∷ 65 ∷ 78 ∷ 68 ∷ 32 ∷ 32 ∷ 32 ∷ 32 ∷ 32 ∷ 32 ∷ 32 ∷ 32 ∷ 32 ∷ 32 ∷ 32 ∷ 32 ∷ 32 ∷ 32 ∷ 32 ∷ 32 ∷ 32 ∷ 32 ∷ 32 ∷ 32 ∷ 32 ∷ 32 ∷ 32 ∷ 82 ∷ 69 ∷ 83 ∷ 85 ∷ 76 ∷ 84 ∷ 32 ∷ 32 ∷ 32 ∷ 32 ∷ 32 ∷ 32 ∷ 32 ∷ 32 ∷ 32 ∷ 32 ∷ 32 ∷ 32 ∷ 32 ∷ 32 ∷ 32 ∷ 32 ∷ 32 ∷ 32 ∷ 32 ∷ 32 ∷ 32 ∷ 32 ∷ 32 ∷ 32 ∷ 32 ∷ 32 ∷ 32 ∷ 32 ∷ 32 ∷ 32 ∷ 32 ∷ 32 ∷ 77 ∷ 69 ∷ 65 ∷ 78 ∷ 84 ∷ 32 ∷ 70 ∷ 65 ∷ 85 ∷ 76 ∷ 84 ∷ 10 ∷ [])
-
-abbrev pub TagLines : Type 0
-TagLines =
-    (isCrate : Bool) (i size : ℕ) (sizes : List ℕ)
-    → tagLines isCrate i (size ∷ sizes) ≡ fileText (tagName isCrate i) size ++ (10 ∷ []) ++ tagLines isCrate (i + 1) sizes
 
 -- ---- the items
 

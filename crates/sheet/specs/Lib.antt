@@ -1,5 +1,4 @@
 pub mod Claims
-pub mod Head
 pub mod Itemised
 pub mod Items
 pub mod Sheet

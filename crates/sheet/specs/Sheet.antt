@@ -15,7 +15,7 @@ use Rattle.reader.specs.declared.tally.Tally.{Tally}
 use Rattle.report.specs.Lines.{tooLongLine, unreadableLine, ends}
 use Rattle.report.specs.Report.{tooLong, placesOf, fresh}
 use Rattle.rows.specs.Rows.{droppedIn, itemRows, waitingRow}
-use Rattle.sheet.specs.Head.{headOf}
+use Rattle.head.specs.Head.{headOf}
 use Rattle.sheet.specs.Items.{noItems, failing, itemsAfter, closes}
 use Rattle.sheet.specs.declared.items.Items.{Items}
 use Rattle.tag.specs.Commands.{parse}

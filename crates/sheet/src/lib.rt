@@ -1,5 +1,4 @@
 // The sheet that is signed: every failure of a run, item by item.
 pub mod foot;
-pub mod head;
 pub mod items;
 pub mod telling;

@@ -1,8 +1,10 @@
 pub mod Claimed
+pub mod Chains
 pub mod CountPuts
 pub mod Decimals
 pub mod HexPuts
 pub mod Laying
+pub mod Overlays
 pub mod Puts
 pub mod Spaces
 pub mod Told

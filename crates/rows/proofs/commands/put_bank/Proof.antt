@@ -2,7 +2,7 @@
 use mathlib.Core.Path.{ap, sym}
 use native.Mathlib.Omega.{arith}
 use Rattle.frame.specs.Bytes.{pick}
-use Rattle.rows.proofs.Chains.{laid-by, is-by}
+use Rattle.text.proofs.Chains.{laid-by, is-by}
 use Rattle.rows.proofs.CommandTexts.{is-user}
 use Rattle.rows.specs.Commands.{bankName}
 use borrow.Author.Needs.{needs}

@@ -1,6 +1,6 @@
 -- `put_command` meets its contract: the code, then the fields.
 use native.Mathlib.Omega.{arith}
-use Rattle.rows.proofs.Chains.{laid-by, room-by, hex-short}
+use Rattle.text.proofs.Chains.{laid-by, room-by, hex-short}
 use Rattle.rows.proofs.CommandTexts.{command-put}
 use borrow.Author.Needs.{needs}
 use Rattle.rows.proofs.commands.put_command.Statement.{statement}

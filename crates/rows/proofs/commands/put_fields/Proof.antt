@@ -1,7 +1,7 @@
 -- `put_fields` meets its contract, command by command.
 use mathlib.Core.Path.{refl, ap, sym}
 use native.Mathlib.Omega.{arith}
-use Rattle.rows.proofs.Chains.{laid-by, is-by}
+use Rattle.text.proofs.Chains.{laid-by, is-by}
 use Rattle.rows.specs.Commands.{fieldsText}
 use borrow.Author.Needs.{needs}
 use Rattle.rows.proofs.commands.put_fields.Statement.{statement}

@@ -1,6 +1,6 @@
 -- `put_lock` meets its contract: the mask and the action, each behind its word.
 use native.Mathlib.Omega.{arith}
-use Rattle.rows.proofs.Chains.{laid-by, room-by}
+use Rattle.text.proofs.Chains.{laid-by, room-by}
 use Rattle.rows.proofs.CommandTexts.{lock-words-put, lock-put}
 use borrow.Author.Needs.{needs}
 use Rattle.rows.proofs.commands.put_lock.Statement.{statement}

@@ -1,6 +1,6 @@
 -- `put_words` meets its contract: the name, then what it aims at.
 use native.Mathlib.Omega.{arith}
-use Rattle.rows.proofs.Chains.{laid-by, join-by, room-by}
+use Rattle.text.proofs.Chains.{laid-by, join-by, room-by}
 use borrow.Author.Needs.{needs}
 use Rattle.rows.proofs.commands.put_words.Statement.{statement}
 use Rattle.rows.proofs.commands.put_words.Tie as tie

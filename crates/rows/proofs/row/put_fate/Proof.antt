@@ -1,5 +1,5 @@
 -- `put_fate` meets its contract: the number of bytes, and what became of them.
-use Rattle.rows.proofs.Chains.{more-by}
+use Rattle.text.proofs.Chains.{more-by}
 use borrow.Author.Needs.{needs}
 use Rattle.rows.proofs.row.put_fate.Statement.{statement}
 use Rattle.rows.proofs.row.put_fate.Tie as tie

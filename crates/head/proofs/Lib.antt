@@ -1,0 +1,4 @@
+pub mod Claimed
+pub mod FilePuts
+pub mod Heads
+pub mod Taken

@@ -1,0 +1,4 @@
+pub mod Claims
+pub mod Commands
+pub mod Files
+pub mod Head
