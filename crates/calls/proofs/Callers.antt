@@ -12,13 +12,14 @@ use native.Mathlib.Omega.{arith}
 use Rattle.reader.specs.Outcomes.{numberOf}
 use Rattle.reader.specs.declared.outcome.Outcome.{Outcome}
 use Rattle.reader.specs.declared.outcome.Outcome.the-variants.{Answered, FullList}
-use Rattle.calls.proofs.Answering.{selecting-answers}
+use Rattle.machine.proofs.Answering.{selecting-answers}
 use Rattle.calls.proofs.Doing.{in-front}
-use Rattle.calls.proofs.Steps.{handOutAt, commandAt, job-cases}
-use Rattle.calls.specs.Calls.{selectionIn, Lent, withSelected, lentAfter, lentBy, LentSelection}
-use Rattle.calls.specs.Machine.{State, call, Step, parametersAt, unchanged, dropped, told, selecting, missed, actFor, acted, aimed, decide, carriedOut, inputOf, counted, isRefused, unless, stepUnless}
-use Rattle.calls.specs.declared.deciding.Aimed.{Aimed}
-use Rattle.calls.specs.declared.deciding.Job.{Job}
+use Rattle.machine.proofs.Steps.{handOutAt, commandAt, job-cases}
+use Rattle.machine.specs.Lent.{selectionIn}
+use Rattle.calls.specs.Calls.{Lent, withSelected, lentAfter, lentBy, LentSelection}
+use Rattle.machine.specs.Machine.{State, call, Step, parametersAt, unchanged, dropped, told, selecting, missed, actFor, acted, aimed, decide, carriedOut, inputOf, counted, isRefused, unless, stepUnless}
+use Rattle.machine.specs.declared.deciding.Aimed.{Aimed}
+use Rattle.machine.specs.declared.deciding.Job.{Job}
 use Rattle.frame.proofs.Picks.{pick-true, pick-false, by-test}
 use Rattle.frame.proofs.Tests.{either, all-at}
 use Rattle.frame.specs.Bytes.{byte, part}

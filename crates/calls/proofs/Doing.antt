@@ -12,12 +12,13 @@ use native.Mathlib.Omega.{arith}
 use Rattle.reader.specs.Readers.{readerOf}
 use Rattle.reader.specs.declared.outcome.Outcome.{Outcome}
 use Rattle.reader.specs.declared.outcome.Outcome.the-variants.{Answered, Dropped}
-use Rattle.calls.specs.Calls.{selectionIn, stepOf, Lent, lentOf, withSelected, lentAfter, Ready, Framed, Aimable, Doable, AimDone, Told, Selected}
-use Rattle.calls.specs.Machine.{State, stateOf, Step, parametersAt, unchanged, dropped, told, plainError, selectTaken, selecting, missed, nextAfter, imageFor, actFor, acted, aimed, carriedOut, counted}
+use Rattle.machine.specs.Lent.{selectionIn}
+use Rattle.calls.specs.Calls.{stepOf, Lent, lentOf, withSelected, lentAfter, Ready, Framed, Aimable, Doable, AimDone, Told, Selected}
+use Rattle.machine.specs.Machine.{State, stateOf, Step, parametersAt, unchanged, dropped, told, plainError, selectTaken, selecting, missed, nextAfter, imageFor, actFor, acted, aimed, carriedOut, counted}
 use Rattle.calls.specs.declared.calling.Called.{Called}
-use Rattle.calls.specs.declared.deciding.Aimed.{Aimed}
-use Rattle.calls.specs.declared.deciding.Job.{Job}
-use Rattle.calls.specs.declared.deciding.Job.the-variants.{Stay, DropByte, Select, Miss, Aim}
+use Rattle.machine.specs.declared.deciding.Aimed.{Aimed}
+use Rattle.machine.specs.declared.deciding.Job.{Job}
+use Rattle.machine.specs.declared.deciding.Job.the-variants.{Stay, DropByte, Select, Miss, Aim}
 use Rattle.execution.proofs.Callers.{Ran, ran, told-refused, told-error, told-good}
 use Rattle.execution.proofs.Rounds.{closed-round}
 use Rattle.execution.specs.Execution.{Execution, FrameWritten, imageAfter}

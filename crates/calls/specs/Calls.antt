@@ -3,14 +3,14 @@ use Prim.Native.Nat.{ℕ, _+_, _≤_, _<_}
 use mathlib.Core.Bool.{Bool, true}
 use mathlib.Core.List.{List}
 use mathlib.Core.Path.{_≡_}
-use lib.Dec.{leb}
-use lib.ListN.{length, take, replicate}
+use lib.ListN.{length}
 use lib.Seq.{sets}
-use Rattle.calls.specs.Machine.{State, stateOf, call, Step, parametersAt, decide, unless, plainError, selectTaken, counted, stepUnless}
+use Rattle.machine.specs.Lent.{selectionIn}
+use Rattle.machine.specs.Machine.{State, stateOf, call, Step, parametersAt, decide, unless, plainError, selectTaken, counted, stepUnless}
 use Rattle.calls.specs.declared.calling.Called.{Called}
-use Rattle.calls.specs.declared.deciding.Aimed.{Aimed}
-use Rattle.calls.specs.declared.deciding.Job.{Job}
-use Rattle.calls.specs.declared.deciding.Job.the-variants.{Stay, DropByte, Select, Miss, Aim}
+use Rattle.machine.specs.declared.deciding.Aimed.{Aimed}
+use Rattle.machine.specs.declared.deciding.Job.{Job}
+use Rattle.machine.specs.declared.deciding.Job.the-variants.{Stay, DropByte, Select, Miss, Aim}
 use Rattle.frame.specs.Bytes.{pick, byte}
 use Rattle.frame.specs.Frames.{written}
 use Rattle.image.specs.Image.{good}
@@ -24,10 +24,6 @@ use Rattle.reader.specs.Readers.{readerOf}
 use Rattle.reader.specs.declared.outcome.Outcome.the-variants.{Answered}
 use Rattle.tag.specs.Answers.{answer, changed, isError}
 use Rattle.tag.specs.declared.commands.Act.{Act}
-
--- The first `count` of the 39 lent bytes are the selection. More than there are stand for as many zeros, which no Set Select takes.
-unfoldable pub selectionIn : List ℕ → ℕ → List ℕ
-selectionIn bytes count = pick (leb count 39) (take count bytes) (replicate count 0)
 
 abbrev pub stepOf : Called → List ℕ → List Place → ℕ → List ℕ → List ℕ → Step
 stepOf r memory places tags selection output =

@@ -1,13 +1,13 @@
 // One call over a crate of tags: the machine's step, on a memory, an output and a selection that the caller lends. What is to be done is decided first, and
 // then done.
-use crate::deciding::Aimed;
-use crate::deciding::Job;
-use crate::deciding::decide;
 use execution::execute::Executed;
 use frame::bytes::byte_at;
 use frame::closing::close;
 use frame::copying::copy;
 use frame::layout;
+use machine::deciding::Aimed;
+use machine::deciding::Job;
+use machine::deciding::decide;
 use population::executing::execute_at;
 use population::places::Place;
 use population::selection::is_taken;
@@ -19,8 +19,9 @@ ghost use Prim.Native.Nat.{ℕ, _+_, _≤_, _<_};
 ghost use lib.Dec.{eqb};
 ghost use lib.ListN.{length};
 ghost use Rattle.reader.specs.Readers.{readerOf};
-ghost use Rattle.calls.specs.Calls.{selectionIn, stepOf, lentOf, lentAfter, lentBy, Ready, Doable, AimDone, Told, Selected};
-ghost use Rattle.calls.specs.Machine.{call as aCall, stateOf, carriedOut, stepUnless, plainError};
+ghost use Rattle.machine.specs.Lent.{selectionIn};
+ghost use Rattle.calls.specs.Calls.{stepOf, lentOf, lentAfter, lentBy, Ready, Doable, AimDone, Told, Selected};
+ghost use Rattle.machine.specs.Machine.{call as aCall, stateOf, carriedOut, stepUnless, plainError};
 ghost use Rattle.execution.specs.Execution.{FrameWritten};
 ghost use Rattle.frame.specs.Bytes.{pick};
 ghost use Rattle.frame.specs.Frames.{frameOf};

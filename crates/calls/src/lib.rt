@@ -1,4 +1,2 @@
-// One call over a crate of up to sixteen tags: first what is to be done is decided, and nothing is changed; then it is done.
-pub mod absent;
+// One call over a crate of up to sixteen tags: what was decided is done, on what the caller lends.
 pub mod calling;
-pub mod deciding;

@@ -9,8 +9,8 @@ use mathlib.Core.Logic.{_≢_}
 use mathlib.Core.Path.{_≡_, refl, ap, sym, subst, _∙_}
 use native.Mathlib.Nat.{zero-add}
 use native.Mathlib.Omega.{arith}
-use Rattle.calls.specs.Calls.{selectionIn}
-use Rattle.calls.specs.Machine.{State, call, after}
+use Rattle.machine.specs.Lent.{selectionIn}
+use Rattle.machine.specs.Machine.{State, call, after}
 use Rattle.console.specs.Console.{begun, Ran, RanFrom}
 use Rattle.frame.proofs.Tests.{either}
 use Rattle.frame.specs.Bytes.{pick}

@@ -6,7 +6,7 @@ use mathlib.Core.List.{List, []}
 use mathlib.Core.Logic.{_≢_}
 use mathlib.Core.Path.{_≡_}
 use lib.ListN.{length, replicate}
-use Rattle.calls.specs.Machine.{State, stateOf, call, after}
+use Rattle.machine.specs.Machine.{State, stateOf, call, after}
 use Rattle.population.specs.declared.places.Place.{Place}
 use Rattle.reader.specs.Readers.{freshReader}
 use Rattle.report.specs.Report.{stepsFrom, lastState, fresh, filesOf, noticeOf}

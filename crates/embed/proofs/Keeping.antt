@@ -12,7 +12,7 @@ use Rattle.reader.specs.declared.outcome.Outcome.{Outcome}
 use Rattle.reader.specs.declared.outcome.Outcome.the-variants.{Answered, AtEnd, Incomplete, Dropped, PastEnd, BadImage, ShortOutput, FullTally, FullList}
 use Rattle.calls.proofs.Callers.{DropsStay, call-cases}
 use Rattle.calls.specs.Calls.{Lent, lentOf, lentBy}
-use Rattle.calls.specs.Machine.{State, stateOf, call, Step, unchanged, dropped, stepUnless}
+use Rattle.machine.specs.Machine.{State, stateOf, call, Step, unchanged, dropped, stepUnless}
 use Rattle.calls.specs.declared.calling.Called.{Called}
 use Rattle.embed.proofs.Packing.{thirteen-cases}
 use Rattle.embed.specs.Kept.{kept, countFor, placeFor, keptDrop, keptAnswer, keptBy}

@@ -8,11 +8,12 @@ use mathlib.Core.List.{List, [], _∷_, _++_, append-nil}
 use mathlib.Core.Path.{_≡_, refl, ap, ap₂, sym, subst, _∙_}
 use native.Mathlib.Omega.{arith}
 use Rattle.calls.proofs.Callers.{lent-selection}
-use Rattle.calls.specs.Calls.{selectionIn, Lent, lentOf, lentBy}
-use Rattle.calls.specs.Machine as Inner
-use Rattle.calls.specs.Machine.{unchanged, dropped, told as toldBy, selecting, missed, acted, aimed, carriedOut, stepUnless, unless, inputOf, decide}
-use Rattle.calls.specs.declared.deciding.Job.{Job}
-use Rattle.calls.specs.declared.deciding.Job.the-variants.{Stay, DropByte, Select, Miss, Aim}
+use Rattle.machine.specs.Lent.{selectionIn}
+use Rattle.calls.specs.Calls.{Lent, lentOf, lentBy}
+use Rattle.machine.specs.Machine as Inner
+use Rattle.machine.specs.Machine.{unchanged, dropped, told as toldBy, selecting, missed, acted, aimed, carriedOut, stepUnless, unless, inputOf, decide}
+use Rattle.machine.specs.declared.deciding.Job.{Job}
+use Rattle.machine.specs.declared.deciding.Job.the-variants.{Stay, DropByte, Select, Miss, Aim}
 use Rattle.embed.proofs.Acknowledging.{not-acknowledged, is-acknowledged}
 use Rattle.embed.proofs.Packing.{thirteen-cases, all-fit, carried-out}
 use Rattle.embed.specs.Acknowledged.{ListLeft, listLeftBy, acknowledgedOn}

@@ -9,8 +9,9 @@ use mathlib.Core.List.{List, [], _∷_}
 use mathlib.Core.Path.{_≡_, refl, sym, ap, ap₂, _∙_}
 use native.Mathlib.Omega.{arith}
 use Rattle.reader.specs.Outcomes.{numberOf, reasonOf}
-use Rattle.calls.specs.Calls.{selectionIn, Lent, lentOf, lentBy}
-use Rattle.calls.specs.Machine.{State, stateOf, Step}
+use Rattle.machine.specs.Lent.{selectionIn}
+use Rattle.calls.specs.Calls.{Lent, lentOf, lentBy}
+use Rattle.machine.specs.Machine.{State, stateOf, Step}
 use Rattle.embed.specs.Packed.{packed, countsIn, anyAbove, readerAt, readerIn, heldIn, recordsFit, Left, leftBy, told, stateIn, listedIn, stepped, calledWith, called}
 use Rattle.embed.specs.Placed.{tagsIn, usedOf, placesFit, placed}
 use Rattle.embed.specs.declared.Unpacked.{Unpacked}

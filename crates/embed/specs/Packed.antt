@@ -7,8 +7,9 @@ use mathlib.Core.Path.{_≡_}
 use lib.Dec.{eqb, ltb}
 use lib.ListN.{length, getD}
 use Rattle.reader.specs.Outcomes.{numberOf, reasonOf}
-use Rattle.calls.specs.Calls.{selectionIn, Lent, lentOf, lentBy}
-use Rattle.calls.specs.Machine.{State, stateOf, Step}
+use Rattle.machine.specs.Lent.{selectionIn}
+use Rattle.calls.specs.Calls.{Lent, lentOf, lentBy}
+use Rattle.machine.specs.Machine.{State, stateOf, Step}
 use Rattle.embed.specs.Placed.{tagsIn, usedOf, placesFit, placed}
 use Rattle.embed.specs.declared.Unpacked.{Unpacked}
 use Rattle.embed.specs.declared.Unpacked.the-variants.{Fit, OutOfRange}

@@ -8,9 +8,10 @@ use mathlib.Core.List.{List, [], _∷_}
 use mathlib.Core.Logic.{_≢_}
 use mathlib.Core.Path.{_≡_, refl, ap, sym, subst, _∙_}
 use native.Mathlib.Omega.{arith}
-use Rattle.calls.proofs.Listing.{full-stays}
-use Rattle.calls.specs.Calls.{selectionIn, stepOf, Lent, lentOf, lentBy}
-use Rattle.calls.specs.Machine.{State, call, Step, codeAt, unchanged, stepUnless}
+use Rattle.machine.proofs.Listing.{full-stays}
+use Rattle.machine.specs.Lent.{selectionIn}
+use Rattle.calls.specs.Calls.{stepOf, Lent, lentOf, lentBy}
+use Rattle.machine.specs.Machine.{State, call, Step, codeAt, unchanged, stepUnless}
 use Rattle.calls.specs.declared.calling.Called.{Called}
 use Rattle.failures.proofs.Numbers.{none-listed}
 use Rattle.failures.specs.Listing.{asFailure, placeFor, recordIn, isListFull, stepBeside, failureBeside, Beside}

@@ -8,12 +8,12 @@ use mathlib.Core.Logic.{_⊎_, inl, inr, ⊎-elim}
 use mathlib.Core.Path.{_≡_, refl, ap, ap₂, sym, subst, _∙_}
 use native.Mathlib.Omega.{arith}
 use borrow.Author.Tests.{eqb-true}
-use Rattle.calls.proofs.Bounding.{few-takes}
-use Rattle.calls.proofs.Claimed.{bound as bench-bound}
-use Rattle.calls.proofs.Listing.{full-number}
-use Rattle.calls.specs.Claims.{inventories, count as benchCount, takes as benchTakes}
-use Rattle.calls.specs.Machine as Inner
-use Rattle.calls.specs.Secrecy.{acceptedBy as benchAcceptedBy, accepted as benchAccepted}
+use Rattle.machine.proofs.Bounding.{few-takes}
+use Rattle.machine.proofs.Claimed.{bound as bench-bound}
+use Rattle.machine.proofs.Listing.{full-number}
+use Rattle.machine.specs.Claims.{inventories, count as benchCount, takes as benchTakes}
+use Rattle.machine.specs.Machine as Inner
+use Rattle.machine.specs.Secrecy.{acceptedBy as benchAcceptedBy, accepted as benchAccepted}
 use Rattle.effects.specs.Secrecy.{Command}
 use Rattle.failures.proofs.Numbers.{room-bench}
 use Rattle.failures.specs.Claims.{count, takes, Bound}

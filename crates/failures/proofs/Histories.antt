@@ -9,9 +9,9 @@ use mathlib.Core.List.{List, [], _∷_, _++_, append-nil, append-assoc}
 use mathlib.Core.Path.{_≡_, refl, ap, sym, subst, _∙_}
 use native.Mathlib.Nat.{zero-add}
 use native.Mathlib.Omega.{arith}
-use Rattle.calls.proofs.Claimed.{history}
-use Rattle.calls.specs.Claims.{count, isError, isDropped}
-use Rattle.calls.specs.Machine as Inner
+use Rattle.machine.proofs.Claimed.{history}
+use Rattle.machine.specs.Claims.{count, isError, isDropped}
+use Rattle.machine.specs.Machine as Inner
 use Rattle.failures.proofs.Numbers.{done, acknowledges, refuses, full-bench, room-bench, none-listed}
 use Rattle.failures.specs.Claims.{failureIn, failures, acknowledgedIn, ListIsHistory, failed, Balance}
 use Rattle.failures.specs.Machine.{State, Call, call, acknowledge, Step, isFull, benchStep, listed, mayAcknowledge, step, after}

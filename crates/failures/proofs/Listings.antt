@@ -7,8 +7,8 @@ use mathlib.Core.List.{List, [], _∷_, _++_, append-nil}
 use mathlib.Core.Logic.{_≢_}
 use mathlib.Core.Path.{_≡_, refl, ap, sym, _∙_}
 use native.Mathlib.Omega.{arith}
-use Rattle.calls.proofs.Secrets.{code-there}
-use Rattle.calls.specs.Machine as Inner
+use Rattle.machine.proofs.Secrets.{code-there}
+use Rattle.machine.specs.Machine as Inner
 use Rattle.failures.proofs.Numbers.{none-added}
 use Rattle.failures.specs.Claims.{restOf, Lists, EachFailureListed}
 use Rattle.failures.specs.Machine.{State, call, Step, benchStep, listed, step}

@@ -10,7 +10,7 @@ use mathlib.Core.Path.{_≡_, sym, _∙_, ap, subst}
 use native.Mathlib.Nat.{zero-add, suc-add}
 use native.Mathlib.Numerals.{add-one}
 use native.Mathlib.Omega.{arith}
-use Rattle.calls.specs.Machine as Inner
+use Rattle.machine.specs.Machine as Inner
 use Rattle.failures.proofs.Moves.{few-go, held-fit, kept-is, kept-none, moved-none, front-length, length-moved, length-at}
 use Rattle.failures.specs.Lists.{mayRemove, keptOf, movedUp}
 use Rattle.failures.specs.Machine.{stateOf, mayAcknowledge}

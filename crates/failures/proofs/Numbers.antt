@@ -8,11 +8,11 @@ use mathlib.Core.List.{List, [], _∷_, _++_, append-nil}
 use mathlib.Core.Logic.{_⊎_, _≢_, ⊎-elim}
 use mathlib.Core.Path.{_≡_, refl, ap, sym, subst, _∙_}
 use native.Mathlib.Omega.{arith}
-use Rattle.calls.proofs.Answering.{unless-numbers}
-use Rattle.calls.proofs.Claimed.{nothing-changes as bench-nothing-changes}
-use Rattle.calls.proofs.Listing.{room-step, full-stays}
-use Rattle.calls.specs.Machine as Inner
-use Rattle.calls.specs.Machine.{inputOf, restOf as benchRest, unchanged}
+use Rattle.machine.proofs.Answering.{unless-numbers}
+use Rattle.machine.proofs.Claimed.{nothing-changes as bench-nothing-changes}
+use Rattle.machine.proofs.Listing.{room-step, full-stays}
+use Rattle.machine.specs.Machine as Inner
+use Rattle.machine.specs.Machine.{inputOf, restOf as benchRest, unchanged}
 use Rattle.failures.specs.Claims.{AnswerNumbers, AcknowledgeNumbers, NothingChanges, Acknowledged, SameAs, WithRoom}
 use Rattle.failures.specs.Machine.{State, stateOf, Call, call, acknowledge, Step, isFull, benchStep, listed, mayAcknowledge, acknowledged, step}
 use Rattle.failures.specs.Records.{failureFor, failureOf}

@@ -4,9 +4,9 @@ use lib.ListN.{length}
 use mathlib.Core.Bool.{Bool, true, false}
 use mathlib.Core.List.{List, [], _∷_, _++_}
 use mathlib.Core.Path.{_≡_, refl, ap, ap₂, sym, subst, _∙_}
-use Rattle.calls.proofs.Hiding.{Both}
-use Rattle.calls.proofs.Secrets.{stateIn, Stays, Alike, QuietRun, unless-alike, quiet-parts, kept-tag, same-tag, both-at-start}
-use Rattle.calls.specs.Machine as Inner
+use Rattle.machine.proofs.Hiding.{Both}
+use Rattle.machine.proofs.Secrets.{stateIn, Stays, Alike, QuietRun, unless-alike, quiet-parts, kept-tag, same-tag, both-at-start}
+use Rattle.machine.specs.Machine as Inner
 use Rattle.effects.specs.Secrecy.{Command}
 use Rattle.failures.proofs.Numbers.{done, refused, acknowledges, refuses}
 use Rattle.failures.specs.Claims.{Premises, withMemory, Demand3}

@@ -7,9 +7,9 @@ use mathlib.Core.Logic.{_⊎_, _≢_}
 use mathlib.Core.Path.{_≡_}
 use lib.Dec.{eqb, leb, ltb}
 use lib.ListN.{length, drop, replicate}
-use Rattle.calls.specs.Machine as Inner
-use Rattle.calls.specs.Claims.{inventories, withMemory as benchWithMemory}
-use Rattle.calls.specs.Secrecy.{isNone, MayDiffer, Outside}
+use Rattle.machine.specs.Machine as Inner
+use Rattle.machine.specs.Claims.{inventories, withMemory as benchWithMemory}
+use Rattle.machine.specs.Secrecy.{isNone, MayDiffer, Outside}
 use Rattle.failures.specs.Machine.{State, stateOf, Call, call, acknowledge, Step, step, run, after}
 use Rattle.failures.specs.Secrecy.{accepted, SameCall, Throughout}
 use Rattle.failures.specs.declared.record.Record.{Record}

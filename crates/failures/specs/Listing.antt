@@ -5,8 +5,9 @@ use mathlib.Core.List.{List, [], _∷_}
 use mathlib.Core.Path.{_≡_}
 use lib.Dec.{leb}
 use lib.ListN.{length}
-use Rattle.calls.specs.Calls.{selectionIn, stepOf, lentOf, lentBy}
-use Rattle.calls.specs.Machine.{State, call, Step, stepUnless}
+use Rattle.machine.specs.Lent.{selectionIn}
+use Rattle.calls.specs.Calls.{stepOf, lentOf, lentBy}
+use Rattle.machine.specs.Machine.{State, call, Step, stepUnless}
 use Rattle.failures.specs.Records.{blank, failureOf}
 use Rattle.failures.specs.declared.listing.Failure.{Failure}
 use Rattle.failures.specs.declared.listing.Listed.{Listed}

@@ -4,7 +4,7 @@ use mathlib.Core.Bool.{Bool, _&&_}
 use mathlib.Core.List.{List, [], _∷_, _++_}
 use lib.Dec.{leb}
 use lib.ListN.{length, drop}
-use Rattle.calls.specs.Machine as Inner
+use Rattle.machine.specs.Machine as Inner
 use Rattle.failures.specs.Records.{failureOf}
 use Rattle.failures.specs.declared.record.Record.{Record}
 use Rattle.frame.specs.Bytes.{pick}

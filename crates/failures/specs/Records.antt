@@ -3,7 +3,7 @@ use Prim.Native.Nat.{ℕ}
 use mathlib.Core.List.{List, [], _∷_}
 use lib.Dec.{eqb, leb}
 use lib.ListN.{length, take, replicate}
-use Rattle.calls.specs.Machine.{State, Step, codeAt}
+use Rattle.machine.specs.Machine.{State, Step, codeAt}
 use Rattle.failures.specs.declared.record.Record.{Record}
 use Rattle.frame.specs.Bytes.{pick, byte}
 use Rattle.frame.specs.Finding.{reasonNumber}

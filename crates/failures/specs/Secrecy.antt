@@ -3,8 +3,8 @@ use Prim.Native.Nat.{ℕ, _<_}
 use mathlib.Core.Bool.{Bool, true, false}
 use mathlib.Core.List.{List, [], _∷_, _++_}
 use mathlib.Core.Path.{_≡_}
-use Rattle.calls.specs.Machine as Inner
-use Rattle.calls.specs.Secrecy.{PasswordsStay, Outside, acceptedBy as benchAccepted}
+use Rattle.machine.specs.Machine as Inner
+use Rattle.machine.specs.Secrecy.{PasswordsStay, Outside, acceptedBy as benchAccepted}
 use Rattle.effects.specs.Secrecy.{Command}
 use Rattle.failures.specs.Machine.{State, Call, call, acknowledge, Step, isFull, step}
 use Rattle.frame.specs.Bytes.{pick, byte}

@@ -11,8 +11,8 @@ use reader::outcome::Outcome;
 use reader::state::Reader;
 ghost use mathlib.Core.List.{[]};
 ghost use mathlib.Core.Path.{_≡_};
-ghost use Rattle.calls.specs.Calls.{selectionIn};
-ghost use Rattle.calls.specs.Machine.{stateOf, codeAt};
+ghost use Rattle.machine.specs.Lent.{selectionIn};
+ghost use Rattle.machine.specs.Machine.{stateOf, codeAt};
 ghost use Rattle.failures.specs.Listing.{asFailure, Beside};
 ghost use Rattle.failures.specs.Records.{failureFor};
 

@@ -9,10 +9,11 @@ use native.Mathlib.Omega.{arith}
 use Rattle.reader.specs.Outcomes.{numberOf}
 use Rattle.reader.specs.declared.outcome.Outcome.{Outcome}
 use Rattle.reader.specs.declared.outcome.Outcome.the-variants.{Answered}
-use Rattle.calls.proofs.Claimed.{answer-is-one-frame}
-use Rattle.calls.proofs.Listing.{room-step}
-use Rattle.calls.specs.Calls.{selectionIn, stepOf}
-use Rattle.calls.specs.Machine.{State, stateOf, Call, call, Step, step}
+use Rattle.machine.proofs.Claimed.{answer-is-one-frame}
+use Rattle.machine.proofs.Listing.{room-step}
+use Rattle.machine.specs.Lent.{selectionIn}
+use Rattle.calls.specs.Calls.{stepOf}
+use Rattle.machine.specs.Machine.{State, stateOf, Call, call, Step, step}
 use Rattle.calls.specs.declared.calling.Called.{Called}
 use Rattle.failures.specs.Listing.{isListFull, Beside}
 use Rattle.failures.specs.declared.listing.Listed.{Listed}

@@ -11,11 +11,11 @@ use native.Mathlib.Omega.{arith}
 use Rattle.reader.specs.Outcomes.{numberOf, reasonOf}
 use Rattle.reader.specs.declared.outcome.Outcome.{Outcome}
 use Rattle.reader.specs.declared.outcome.Outcome.the-variants.{Answered, AtEnd, Incomplete, Dropped, PastEnd, BadImage, ShortOutput, FullTally, FullList}
-use Rattle.calls.proofs.Claimed.{history, answer-is-one-frame, nothing-changes, drop-takes-one-byte}
-use Rattle.calls.proofs.Framing.{never-past}
-use Rattle.calls.specs.Claims.{count, isGood, isError, isDropped}
-use Rattle.calls.specs.Machine.{State, call, Step, waiting, inputOf, restOf, step, run, after}
-use Rattle.calls.specs.Secrecy.{isNone}
+use Rattle.machine.proofs.Claimed.{history, answer-is-one-frame, nothing-changes, drop-takes-one-byte}
+use Rattle.machine.proofs.Framing.{never-past}
+use Rattle.machine.specs.Claims.{count, isGood, isError, isDropped}
+use Rattle.machine.specs.Machine.{State, call, Step, waiting, inputOf, restOf, step, run, after}
+use Rattle.machine.specs.Secrecy.{isNone}
 use Rattle.frame.proofs.Picks.{pick-true, pick-false}
 use Rattle.frame.proofs.Tests.{either}
 use Rattle.frame.specs.Bytes.{pick, byte, number}

@@ -8,7 +8,7 @@ use mathlib.Core.List.{List, [], _∷_, _++_, append-assoc}
 use mathlib.Core.Path.{_≡_, refl, ap, sym, _∙_}
 use native.Mathlib.Nat.{zero-add, suc-add}
 use native.Mathlib.Omega.{arith}
-use Rattle.calls.specs.Machine.{State, Call, call, Step, step, after}
+use Rattle.machine.specs.Machine.{State, Call, call, Step, step, after}
 use Rattle.frame.proofs.Picks.{pick-true, pick-false}
 use Rattle.frame.proofs.Tests.{either}
 use Rattle.report.proofs.Reports.{none-left, one-left, report-more}

@@ -6,10 +6,10 @@ use mathlib.Core.List.{List}
 use mathlib.Core.Logic.{_≢_, ⊎-elim}
 use mathlib.Core.Path.{_≡_, refl, ap, _∙_}
 use native.Mathlib.Omega.{arith}
-use Rattle.calls.proofs.Claimed.{nothing-changes}
-use Rattle.calls.specs.Claims.{answerOf}
+use Rattle.machine.proofs.Claimed.{nothing-changes}
+use Rattle.machine.specs.Claims.{answerOf}
 use Rattle.reader.specs.Outcomes.{numberOf}
-use Rattle.calls.specs.Machine.{State, call, Step, step}
+use Rattle.machine.specs.Machine.{State, call, Step, step}
 use Rattle.reader.specs.declared.outcome.Outcome.{Outcome}
 use Rattle.reader.specs.declared.outcome.Outcome.the-variants.{Answered, AtEnd, Incomplete, Dropped, PastEnd, BadImage, ShortOutput, FullTally, FullList}
 use Rattle.reader.specs.declared.tally.Tally.{Tally}

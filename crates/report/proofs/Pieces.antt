@@ -9,7 +9,7 @@ use mathlib.Core.List.{List, [], _++_, append-assoc, append-nil}
 use mathlib.Core.Path.{_≡_, refl, ap, sym, _∙_}
 use native.Mathlib.Nat.{zero-add, sub-zero}
 use native.Mathlib.Omega.{arith}
-use Rattle.calls.specs.Machine.{State, Call, call, Step, step, work, after}
+use Rattle.machine.specs.Machine.{State, Call, call, Step, step, work, after}
 use Rattle.frame.specs.Putting.{Put}
 use Rattle.frame.proofs.Picks.{pick-true, pick-false}
 use Rattle.frame.proofs.Tests.{either}

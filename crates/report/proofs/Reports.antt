@@ -5,10 +5,10 @@ use mathlib.Core.Bool.{true, false, not}
 use mathlib.Core.List.{List, [], _∷_, _++_}
 use mathlib.Core.Path.{_≡_, refl, ap, sym, _∙_}
 use native.Mathlib.Omega.{arith}
-use Rattle.calls.proofs.Claimed.{work-falls}
-use Rattle.calls.specs.Claims.{takes}
+use Rattle.machine.proofs.Claimed.{work-falls}
+use Rattle.machine.specs.Claims.{takes}
 use Rattle.reader.specs.Outcomes.{numberOf}
-use Rattle.calls.specs.Machine.{State, call, Step, step, work}
+use Rattle.machine.specs.Machine.{State, call, Step, step, work}
 use Rattle.reader.specs.declared.outcome.Outcome.{Outcome}
 use Rattle.reader.specs.declared.outcome.Outcome.the-variants.{Answered, AtEnd, Incomplete, Dropped, PastEnd, BadImage, ShortOutput, FullTally, FullList}
 use Rattle.frame.proofs.Picks.{pick-true, pick-false}

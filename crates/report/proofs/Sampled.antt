@@ -1,7 +1,7 @@
 -- What is computed: document 01's sample report and the image behind it, and the reports on an empty image and on no tag.
 use mathlib.Core.Path.{refl}
-use Rattle.calls.proofs.Computed.{opened as machine}
-use Rattle.calls.specs.Machine.{bytesLeft, tagsLeft, work, after}
+use Rattle.machine.proofs.Computed.{opened as machine}
+use Rattle.machine.specs.Machine.{bytesLeft, tagsLeft, work, after}
 use Rattle.report.specs.Claims.{SampleReport, SampleImage, EmptyImage, EmptyCrate}
 use Rattle.report.specs.Lines.{dropWord, tooLongLine, dropLine, separator, frameLine, lineFor, lineOf, ends}
 use Rattle.report.specs.Report.{stepsBy, steps, stepsFrom, linesOf, reportFrom, lastState, anyLong, tooLong, placeIn, laidOut, placesOf, fresh, reportOf}

@@ -7,7 +7,7 @@ use mathlib.Core.List.{List, [], _∷_, _++_, append-assoc, append-nil}
 use mathlib.Core.Path.{_≡_, refl, ap, sym, _∙_}
 use native.Mathlib.Nat.{sub-zero}
 use native.Mathlib.Omega.{arith}
-use Rattle.calls.specs.Machine.{State, call, Step, step, bytesLeft, tagsLeft, work, after}
+use Rattle.machine.specs.Machine.{State, call, Step, step, bytesLeft, tagsLeft, work, after}
 use Rattle.frame.proofs.Picks.{by-test, pick-false}
 use Rattle.frame.proofs.Tests.{either}
 use Rattle.report.proofs.Fitting.{over-is, no-room, piece-over, no-piece, splits, same-last, some}

@@ -8,10 +8,10 @@ use mathlib.Core.List.{List, _++_, append-assoc, append-nil}
 use mathlib.Core.Logic.{_⊎_, ⊎-elim}
 use mathlib.Core.Path.{_≡_, refl, ap, sym, _∙_}
 use native.Mathlib.Omega.{arith}
-use Rattle.calls.proofs.Claimed.{bound}
-use Rattle.calls.specs.Claims.{answerOf, count, takes}
+use Rattle.machine.proofs.Claimed.{bound}
+use Rattle.machine.specs.Claims.{answerOf, count, takes}
 use Rattle.reader.specs.Outcomes.{numberOf}
-use Rattle.calls.specs.Machine.{State, call, Step, waiting, unchanged, decide, carriedOut, inputOf, step, run, after}
+use Rattle.machine.specs.Machine.{State, call, Step, waiting, unchanged, decide, carriedOut, inputOf, step, run, after}
 use Rattle.reader.specs.declared.outcome.Outcome.{Outcome}
 use Rattle.reader.specs.declared.outcome.Outcome.the-variants.{Answered, AtEnd, Incomplete, Dropped, PastEnd, BadImage, ShortOutput, FullTally, FullList}
 use Rattle.frame.proofs.Picks.{by-test, pick-true, pick-false}

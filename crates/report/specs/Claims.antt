@@ -11,9 +11,9 @@ use Rattle.reader.specs.Outcomes.{numberOf}
 use Rattle.effects.specs.Sample.{sample, killed}
 use Rattle.reader.specs.declared.outcome.Outcome.{Outcome}
 use Rattle.reader.specs.declared.outcome.Outcome.the-variants.{Answered, AtEnd, Incomplete, Dropped, PastEnd, BadImage, ShortOutput, FullTally, FullList}
-use Rattle.calls.specs.Claims.{answerOf, count, takes, inventories}
-use Rattle.calls.specs.Machine.{State, call, Step, waiting, step, run, after}
-use Rattle.calls.specs.Secrecy.{isNone, accepted}
+use Rattle.machine.specs.Claims.{answerOf, count, takes, inventories}
+use Rattle.machine.specs.Machine.{State, call, Step, waiting, step, run, after}
+use Rattle.machine.specs.Secrecy.{isNone, accepted}
 use Rattle.frame.specs.Bytes.{pick, byte, number, part}
 use Rattle.frame.specs.Frames.{sum}
 use Rattle.image.specs.Image.{good}

@@ -6,7 +6,7 @@ use lib.ListN.{length, take}
 use Rattle.reader.specs.Outcomes.{numberOf}
 use Rattle.reader.specs.declared.outcome.Outcome.{Outcome}
 use Rattle.reader.specs.declared.outcome.Outcome.the-variants.{Answered, AtEnd, Incomplete, Dropped, PastEnd, BadImage, ShortOutput, FullTally, FullList}
-use Rattle.calls.specs.Machine.{State, Step}
+use Rattle.machine.specs.Machine.{State, Step}
 use Rattle.frame.specs.Bytes.{byte}
 use Rattle.reader.specs.declared.tally.Tally.{Tally}
 use Rattle.text.specs.Counts.{countsLine, refusedLine}

@@ -4,7 +4,7 @@ use mathlib.Core.Bool.{Bool}
 use mathlib.Core.List.{List, [], _∷_, _++_}
 use lib.Dec.{eqb, ltb}
 use lib.ListN.{length, replicate}
-use Rattle.calls.specs.Machine.{State, call, Step, after}
+use Rattle.machine.specs.Machine.{State, call, Step, after}
 use Rattle.frame.specs.Bytes.{pick}
 use Rattle.report.specs.Lines.{longestLine, lineOf}
 use Rattle.report.specs.Report.{stepsFrom, linesOf}

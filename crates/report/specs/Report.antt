@@ -4,7 +4,7 @@ use mathlib.Core.Bool.{Bool, false, _||_}
 use mathlib.Core.List.{List, [], _∷_, _++_}
 use lib.Dec.{ltb}
 use lib.ListN.{length, replicate, take, getD, set}
-use Rattle.calls.specs.Machine.{State, stateOf, call, Step, step, work, after}
+use Rattle.machine.specs.Machine.{State, stateOf, call, Step, step, work, after}
 use Rattle.frame.specs.Bytes.{pick}
 use Rattle.frame.specs.Frames.{sum}
 use Rattle.population.specs.Places.{nowhere}

@@ -6,8 +6,8 @@ use mathlib.Core.Path.{_≡_}
 use lib.Dec.{ltb}
 use lib.ListN.{length, take, replicate}
 use Rattle.reader.specs.declared.outcome.Outcome.the-variants.{Answered}
-use Rattle.calls.specs.Calls.{selectionIn}
-use Rattle.calls.specs.Machine.{State, stateOf, call, step}
+use Rattle.machine.specs.Lent.{selectionIn}
+use Rattle.machine.specs.Machine.{State, stateOf, call, step}
 use Rattle.calls.specs.declared.calling.Called.{Called}
 use Rattle.failures.specs.Records.{blank}
 use Rattle.frame.specs.Putting.{Put}

@@ -7,9 +7,9 @@ use mathlib.Core.Bool.{_&&_}
 use mathlib.Core.List.{List}
 use mathlib.Core.Path.{_≡_, refl, ap, sym, _∙_}
 use native.Mathlib.Omega.{arith}
-use Rattle.calls.proofs.Claimed.{history}
-use Rattle.calls.specs.Claims.{count, isError}
-use Rattle.calls.specs.Machine.{State, call, Step, step, run, after}
+use Rattle.machine.proofs.Claimed.{history}
+use Rattle.machine.specs.Claims.{count, isError}
+use Rattle.machine.specs.Machine.{State, call, Step, step, run, after}
 use Rattle.frame.proofs.Picks.{pick-true, pick-false}
 use Rattle.frame.proofs.Tests.{either}
 use Rattle.frame.specs.Bytes.{pick, byte}

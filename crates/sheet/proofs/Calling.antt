@@ -7,10 +7,10 @@ use mathlib.Core.List.{List, [], _∷_}
 use mathlib.Core.Logic.{_≢_}
 use mathlib.Core.Path.{_≡_, refl, ap, sym, _∙_}
 use native.Mathlib.Omega.{arith}
-use Rattle.calls.proofs.Claimed.{history, hand-out, answer-is-one-frame, nothing-changes, drop-takes-one-byte}
-use Rattle.calls.proofs.Steps.{step-cases}
-use Rattle.calls.specs.Claims.{count, isError, isDropped}
-use Rattle.calls.specs.Machine.{State, call, Step, unchanged, step, run, after, waiting}
+use Rattle.machine.proofs.Claimed.{history, hand-out, answer-is-one-frame, nothing-changes, drop-takes-one-byte}
+use Rattle.machine.proofs.Steps.{step-cases}
+use Rattle.machine.specs.Claims.{count, isError, isDropped}
+use Rattle.machine.specs.Machine.{State, call, Step, unchanged, step, run, after, waiting}
 use Rattle.frame.proofs.Picks.{by-test, pick-true, pick-false}
 use Rattle.frame.proofs.Tests.{either}
 use Rattle.frame.specs.Bytes.{pick, byte}

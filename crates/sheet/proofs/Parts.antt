@@ -8,9 +8,10 @@ use mathlib.Core.Bool.{Bool, true, false, _||_}
 use mathlib.Core.List.{List, []}
 use mathlib.Core.Path.{_≡_, refl, ap, sym, subst, _∙_}
 use native.Mathlib.Omega.{arith}
-use Rattle.calls.proofs.Listing.{room-step}
-use Rattle.calls.specs.Calls.{selectionIn, stepOf}
-use Rattle.calls.specs.Machine.{State, stateOf, call, Step, step, stepUnless, codeAt, parametersAt}
+use Rattle.machine.proofs.Listing.{room-step}
+use Rattle.machine.specs.Lent.{selectionIn}
+use Rattle.calls.specs.Calls.{stepOf}
+use Rattle.machine.specs.Machine.{State, stateOf, call, Step, step, stepUnless, codeAt, parametersAt}
 use Rattle.calls.specs.declared.calling.Called.{Called}
 use Rattle.frame.proofs.Picks.{pick-true, pick-false}
 use Rattle.frame.specs.Bytes.{pick, number, part}

@@ -2,8 +2,8 @@
 use Prim.Native.Nat.{ℕ}
 use borrow.Author.Tests.{le-leb, lt-leb}
 use mathlib.Core.Path.{refl}
-use Rattle.calls.proofs.Computed.{opened as machine}
-use Rattle.calls.specs.Machine.{bytesLeft, tagsLeft, work}
+use Rattle.machine.proofs.Computed.{opened as machine}
+use Rattle.machine.specs.Machine.{bytesLeft, tagsLeft, work}
 use Rattle.frame.proofs.Picks.{pick-true, pick-false}
 use Rattle.report.specs.Lines.{ends}
 use Rattle.report.specs.Report.{anyLong, tooLong, placeIn, laidOut, placesOf, fresh}

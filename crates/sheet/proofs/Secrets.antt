@@ -5,9 +5,9 @@ use lib.ListN.{replicate}
 use mathlib.Core.Bool.{Bool, true, false}
 use mathlib.Core.List.{List, [], _++_}
 use mathlib.Core.Path.{_≡_, refl, ap, sym, _∙_}
-use Rattle.calls.proofs.Claimed.{demand3}
-use Rattle.calls.specs.Machine.{State, call, Step, step, run}
-use Rattle.calls.specs.Secrecy.{SameCall, Throughout}
+use Rattle.machine.proofs.Claimed.{demand3}
+use Rattle.machine.specs.Machine.{State, call, Step, step, run}
+use Rattle.machine.specs.Secrecy.{SameCall, Throughout}
 use Rattle.frame.specs.Bytes.{pick}
 use Rattle.frame.specs.Finding.{reasonNumber}
 use Rattle.frame.specs.declared.finding.Reason.{Reason}

@@ -6,9 +6,9 @@ use mathlib.Core.List.{List, [], _∷_, _++_}
 use mathlib.Core.Logic.{_⊎_, _≢_, ⊎-elim}
 use mathlib.Core.Path.{_≡_, refl, ap, sym, _∙_}
 use native.Mathlib.Omega.{arith}
-use Rattle.calls.proofs.Claimed.{bound, nothing-changes}
-use Rattle.calls.specs.Claims.{answerOf, count, takes}
-use Rattle.calls.specs.Machine.{State, call, Step, step, work, run, after}
+use Rattle.machine.proofs.Claimed.{bound, nothing-changes}
+use Rattle.machine.specs.Claims.{answerOf, count, takes}
+use Rattle.machine.specs.Machine.{State, call, Step, step, work, run, after}
 use Rattle.frame.proofs.Picks.{pick-true, pick-false}
 use Rattle.frame.specs.Bytes.{pick}
 use Rattle.population.specs.Places.{goodPopulation}

@@ -5,9 +5,9 @@ use mathlib.Core.List.{List, [], _∷_, _++_}
 use mathlib.Core.Logic.{_⊎_}
 use mathlib.Core.Path.{_≡_}
 use lib.ListN.{length, drop, replicate}
-use Rattle.calls.specs.Claims.{inventories, Premises, withMemory}
-use Rattle.calls.specs.Machine.{State, call, step, work}
-use Rattle.calls.specs.Secrecy.{accepted}
+use Rattle.machine.specs.Claims.{inventories, Premises, withMemory}
+use Rattle.machine.specs.Machine.{State, call, step, work}
+use Rattle.machine.specs.Secrecy.{accepted}
 use Rattle.frame.specs.declared.finding.Reason.{Reason}
 use Rattle.frame.specs.declared.finding.Reason.the-variants.{NoHeader, WrongType, TooLong, WrongCheck, WrongEnd}
 use Rattle.effects.specs.Sample.{sample}

@@ -3,7 +3,7 @@ use Prim.Native.Nat.{ℕ, zero, suc, _+_, _-_}
 use mathlib.Core.Bool.{_&&_}
 use mathlib.Core.List.{List, [], _∷_, _++_}
 use lib.Dec.{eqb}
-use Rattle.calls.specs.Machine.{State, call, Step, step, codeAt}
+use Rattle.machine.specs.Machine.{State, call, Step, step, codeAt}
 use Rattle.frame.specs.Bytes.{pick, byte}
 use Rattle.reader.specs.Outcomes.{numberOf}
 use Rattle.rows.specs.Rows.{itemRows}

@@ -4,7 +4,7 @@ use mathlib.Core.Bool.{Bool, false, _||_}
 use mathlib.Core.List.{List, [], _∷_, _++_}
 use lib.Dec.{eqb, leb}
 use lib.ListN.{length, drop}
-use Rattle.calls.specs.Machine.{State, call, Step, step, work, codeAt, parametersAt}
+use Rattle.machine.specs.Machine.{State, call, Step, step, work, codeAt, parametersAt}
 use Rattle.frame.specs.Bytes.{pick, number}
 use Rattle.population.specs.Places.{goodPopulation}
 use Rattle.reader.specs.Outcomes.{numberOf}

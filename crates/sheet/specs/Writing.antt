@@ -3,8 +3,8 @@ use Prim.Native.Nat.{ℕ, _+_, _≤_}
 use mathlib.Core.Bool.{Bool, false}
 use mathlib.Core.List.{List}
 use mathlib.Core.Path.{_≡_}
-use Rattle.calls.specs.Calls.{selectionIn}
-use Rattle.calls.specs.Machine.{stateOf, call, step}
+use Rattle.machine.specs.Lent.{selectionIn}
+use Rattle.machine.specs.Machine.{stateOf, call, step}
 use Rattle.frame.specs.Putting.{Put}
 use Rattle.population.specs.declared.places.Place.{Place}
 use Rattle.reader.specs.Readers.{freshReader}

@@ -21,7 +21,7 @@ ghost use mathlib.Core.List.{[]};
 ghost use mathlib.Core.Path.{_≡_};
 ghost use Prim.Native.Nat.{_+_, _≤_};
 ghost use lib.ListN.{length};
-ghost use Rattle.calls.specs.Machine.{codeAt};
+ghost use Rattle.machine.specs.Machine.{codeAt};
 ghost use Rattle.frame.specs.Bytes.{pick};
 ghost use Rattle.frame.specs.Putting.{Put};
 ghost use Rattle.sheet.specs.Items.{closes as closesBy};

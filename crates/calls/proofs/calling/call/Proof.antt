@@ -1,5 +1,5 @@
 -- `call` meets its contract: what is decided and done is the machine's step.
-use Rattle.calls.proofs.Steps.{decided-doable, called, lent-called}
+use Rattle.calls.proofs.Doables.{decided-doable, called, lent-called}
 use borrow.Author.Needs.{needs}
 use Rattle.calls.proofs.calling.call.Statement.{statement}
 use Rattle.calls.proofs.calling.call.Tie as tie

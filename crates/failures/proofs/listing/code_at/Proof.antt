@@ -1,6 +1,6 @@
 -- `code_at` meets its contract: behind the end stands 0.
 use borrow.Author.Needs.{needs}
-use Rattle.calls.specs.Machine.{codeAt}
+use Rattle.machine.specs.Machine.{codeAt}
 use Rattle.failures.proofs.Besides.{no-code}
 use Rattle.failures.proofs.listing.code_at.Statement.{statement}
 use Rattle.failures.proofs.listing.code_at.Tie as tie

@@ -4,7 +4,7 @@ use Prim.Native.Nat.{suc, _-_}
 use lib.ListN.{length}
 use mathlib.Core.Path.{_≡_, refl, _∙_}
 use native.Mathlib.Omega.{arith}
-use Rattle.calls.specs.Machine.{work}
+use Rattle.machine.specs.Machine.{work}
 use Rattle.frame.specs.Bytes.{pick}
 use Rattle.report.proofs.Pieces.{Going, going, goes, falls, too-short, filled, ended}
 use Rattle.report.specs.Writing.{stateAt}

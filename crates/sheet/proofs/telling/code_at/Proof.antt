@@ -1,5 +1,5 @@
 -- `code_at` meets its contract: behind the end stands 0.
-use Rattle.calls.specs.Machine.{codeAt}
+use Rattle.machine.specs.Machine.{codeAt}
 use Rattle.failures.proofs.Besides.{no-code}
 use borrow.Author.Needs.{needs}
 use Rattle.sheet.proofs.telling.code_at.Statement.{statement}
