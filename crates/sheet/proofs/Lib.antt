@@ -1,3 +1,4 @@
+pub mod Accepting
 pub mod Balancing
 pub mod Calling
 pub mod Claimed

@@ -22,6 +22,7 @@ use Rattle.report.proofs.Together.{work-at-start}
 use Rattle.report.proofs.Whole.{Taken, all-taken, ends-by, none-waits, few-bytes}
 use Rattle.report.specs.Lines.{tooLongLine, unreadableLine, ends}
 use Rattle.report.specs.Report.{tooLong, placesOf, fresh}
+use Rattle.sheet.proofs.Accepting.{all-accepted}
 use Rattle.sheet.proofs.Numbered.{row-for-each-item}
 use Rattle.sheet.proofs.Tellings.{falls}
 use Rattle.sheet.specs.Claims.{goesOn, GoodCrateSheet, NoSheet, PieceByPiece, PiecesAreTheText, EnoughPieces}
@@ -113,6 +114,7 @@ good-crate-sheet isCrate commands memory sizes short h =
       k,
       b .1,
       on,
+      all-accepted k commands s on (b .3),
       sheet-is isCrate commands memory sizes short h
           ∙ ap (λ (l : List ℕ). headOf isCrate commands sizes ++ l)
           (ended-sheet commands k (begunOn memory sizes) refl few on (rw there (b .3))),

@@ -20,6 +20,7 @@ use Rattle.report.specs.Lines.{ends}
 use Rattle.report.specs.Report.{tooLong, placesOf, fresh}
 use Rattle.rows.specs.Rows.{droppedIn, waitingRow}
 use Rattle.rows.specs.declared.items.Item.{Item}
+use Rattle.head.specs.Commands.{commandsIn}
 use Rattle.head.specs.Head.{headOf}
 use Rattle.sheet.specs.Itemised.{advanced, itemised, rowsFrom, faults, allFaults}
 use Rattle.sheet.specs.Sheet.{Standing, standingOf, waitingRows, foot, endFor, teller, begunOn, sheetOf, printedSheet}
@@ -124,7 +125,7 @@ SameSheet =
 -- ---- the whole sheet, and its pieces
 
 -- On a good crate it is the head, a row for each item of the run, numbered from 1, and the foot, whose last line is `END OF SHEET`: k calls take something, and
--- the next one is answered 1 or 2.
+-- the next one is answered 1 or 2. The head's "9 commands taken" is the number of commands that these calls accept.
 abbrev pub GoodCrateSheet : Type 0
 GoodCrateSheet =
     (isCrate : Bool) (commands memory sizes : List ℕ)
@@ -133,6 +134,7 @@ GoodCrateSheet =
     → (k : ℕ)
     × (k ≤ length commands + 15 * inventories (accepted (replicate k (call commands)) (fresh memory sizes)))
     × goesOn k commands (fresh memory sizes)
+    × (commandsIn commands ≡ length (accepted (replicate k (call commands)) (fresh memory sizes)))
     × (sheetOf isCrate commands memory sizes
     ≡ headOf isCrate commands sizes
     ++ (rowsFrom 1 commands (itemised k commands (begunOn memory sizes))
