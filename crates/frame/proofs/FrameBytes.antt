@@ -2,7 +2,7 @@
 use Prim.Native.Nat.{ℕ, _+_, _≤_}
 use lib.ListN.{length, take, drop, length-append, length-take, length-drop}
 use lib.Seq.{take-append-seam, drop-append-seam}
-use mathlib.Core.List.{List}
+use mathlib.Core.List.{List, _∷_}
 use mathlib.Core.Path.{_≡_, refl}
 use native.Mathlib.Omega.{arith}
 use Rattle.frame.specs.Bytes.{byte, bytesOf, part}
@@ -15,6 +15,10 @@ length-frame type code p = simp length-append (omega arith)
 pub code-frame : (type code : ℕ) (p output : List ℕ) → byte (written (frameOf type code p) output) 2 ≡ code
 unfolding byte written frameOf checked
 code-frame type code p output = refl
+
+pub first-frame : (type code b : ℕ) (p output : List ℕ) → byte (written (frameOf type code (b ∷ p)) output) 5 ≡ b
+unfolding byte written frameOf checked bytesOf
+first-frame type code b p output = refl
 
 pub length-part : (bytes : List ℕ) (i n : ℕ) → length (part bytes i n) ≤ n
 unfolding part

@@ -7,6 +7,7 @@ pub mod Claimed
 pub mod Computed
 pub mod Counting
 pub mod Effecting
+pub mod ErrorBytes
 pub mod Founds
 pub mod Framing
 pub mod Handing

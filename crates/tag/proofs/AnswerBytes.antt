@@ -1,15 +1,15 @@
 -- Answer frames: no longer than 136 bytes, and code FF exactly for an error.
-use Prim.Native.Nat.{ℕ, _+_, _*_, _≤_}
+use Prim.Native.Nat.{ℕ, _+_, _*_, _≤_, _<_}
 use lib.Dec.{eqb}
 use lib.ListN.{length, length-append}
-use mathlib.Core.Bool.{true}
+use mathlib.Core.Bool.{true, true≢false}
 use mathlib.Core.List.{List, [], _∷_, _++_}
-use mathlib.Core.Path.{_≡_}
+use mathlib.Core.Path.{_≡_, sym}
 use native.Mathlib.Omega.{arith}
-use Rattle.frame.proofs.FrameBytes.{length-frame, code-frame, length-part}
+use Rattle.frame.proofs.FrameBytes.{length-frame, code-frame, first-frame, length-part}
 use Rattle.frame.specs.Bytes.{byte, part}
 use Rattle.frame.specs.Frames.{frameOf, written}
-use Rattle.tag.proofs.Cases.{placeOf, act-cases}
+use Rattle.tag.proofs.Cases.{placeOf, error-cases, act-cases}
 use Rattle.image.proofs.GoodImages.{Good, good-facts}
 use Rattle.tag.specs.Answers.{tail, answer, isError}
 use Rattle.tag.specs.Commands.{countIn, actOf}
@@ -81,3 +81,18 @@ error-code image p code output =
     (λ n writes. rw (code-frame 0x01 0x49 (tail image ++ (0x00 ∷ [])) output))
     (λ n locks. rw (code-frame 0x01 0x82 (tail image ++ (0x00 ∷ [])) output))
     (λ n kills. rw (code-frame 0x01 0x65 (tail image ++ (0x00 ∷ [])) output))
+
+-- and its byte is not 0
+pub error-named : (image p : List ℕ) (code : ℕ) (output : List ℕ) → isError (actOf image code p) ≡ true
+    → 0 < byte (written (answer image (actOf image code p)) output) 5
+unfolding answer isError
+error-named image p code output =
+    error-cases (λ (act : Act). isError act ≡ true → 0 < byte (written (answer image act) output) 5)
+    (λ e some error. omega (arith, first-frame 0x01 0xFF e [] output))
+    (λ e some error. omega (arith, first-frame 0x01 0xFF e (tail image) output))
+    image p code
+    (λ n error. absurd (true≢false (sym error)))
+    (λ n reads error. absurd (true≢false (sym error)))
+    (λ n writes error. absurd (true≢false (sym error)))
+    (λ n locks error. absurd (true≢false (sym error)))
+    (λ n kills error. absurd (true≢false (sym error)))
