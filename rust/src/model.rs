@@ -2,7 +2,8 @@
 //! the later changes "Why was the byte dropped?", "Locks put right for repeated permalocks", "The tag
 //! keeps its own CRC word", "Sixteen tags in the crate" and "The list the builder signs", written from
 //! these papers alone. It shares no code and no definition with the proved bench, so a mistake would
-//! have to be made twice to stay unseen. Quoted lines are the papers'.
+//! have to be made twice to stay unseen. Quoted lines are the papers'. Over it stands the failure sheet
+//! ([`sheet`]).
 
 #[macro_use]
 mod branches;
@@ -21,6 +22,7 @@ mod locking;
 mod locks;
 mod reading;
 mod selection;
+pub mod sheet;
 mod tally;
 mod writing;
 

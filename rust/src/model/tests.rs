@@ -9,6 +9,7 @@ mod crc_word;
 mod finding;
 mod listing;
 mod locking;
+mod sheet;
 
 fn fresh() -> Bench {
     Bench::new(sample_image())
