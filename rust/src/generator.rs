@@ -18,5 +18,5 @@ pub use images::{
     double, good_image, image_of_odd_words, offset_place, password, sample_image, sample_tag,
     set_crc_word, set_double, words_place,
 };
-pub use inputs::{counts, input};
+pub use inputs::{counts, damaged, input};
 pub use random::Random;

@@ -66,7 +66,7 @@ fn noise(random: &mut Random) -> Vec<u8> {
 
 /// A frame with something wrong. Each reason to drop its header comes alone and together with later
 /// ones, so that their order shows.
-fn damaged(random: &mut Random, mut bytes: Vec<u8>) -> Vec<u8> {
+pub fn damaged(random: &mut Random, mut bytes: Vec<u8>) -> Vec<u8> {
     match random.below(12) {
         0 => wrong_check(random, &mut bytes),
         1 => wrong_end(random, &mut bytes),
