@@ -10,12 +10,13 @@ use native.Mathlib.Omega.{arith}
 use Rattle.frame.proofs.Picks.{by-test}
 use Rattle.frame.proofs.Tests.{either}
 use Rattle.frame.specs.Bytes.{byte}
+use Rattle.naming.proofs.Widths.{error-short}
+use Rattle.naming.specs.Commands.{commandText}
+use Rattle.naming.specs.Errors.{errorText}
 use Rattle.reader.specs.declared.tally.Tally.{Tally}
 use Rattle.rows.proofs.Fits.{columns-apart}
 use Rattle.rows.specs.Claims.{boxes, BoxesStay}
 use Rattle.rows.specs.Columns.{boxedRow, plainRow, numberPlace, numbered, blankRows}
-use Rattle.rows.specs.Commands.{commandText}
-use Rattle.rows.specs.Errors.{errorText}
 use Rattle.rows.specs.Rows.{rangeText, bytesText, reasonsIn, cellPlace, cellText, withCell, withReasons, droppedIn, errorRow, dropRows, waitingRow}
 use Rattle.tag.specs.declared.commands.Parsed.{Parsed}
 use Rattle.text.specs.Digits.{decimal}
@@ -65,7 +66,7 @@ error-boxes : (n first code e : ℕ) (parsed : Parsed) → n < 10000 → first <
 unfolding errorRow
 error-boxes n first code e parsed few low short =
     let ranged : List ℕ = sets (numbered n boxedRow) 7 (decimal first) in
-    over (sets ranged 20 (commandText code parsed)) 50 (errorText e) (omega (arith, columns-apart .error e))
+    over (sets ranged 20 (commandText code parsed)) 50 (errorText e) (omega (arith, error-short e))
     ∙ over ranged 20 (commandText code parsed) (omega arith)
     ∙ over (numbered n boxedRow) 7 (decimal first) (omega (arith, columns-apart .position first low))
     ∙ numbered-boxes n boxedRow few

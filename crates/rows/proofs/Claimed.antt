@@ -1,23 +1,10 @@
 -- Every claim of specs/Claims.antt holds.
-use Prim.Native.Nat.{ℕ}
 use Rattle.rows.proofs.Boxes as boxes
 use Rattle.rows.proofs.Fits as fits
 use Rattle.rows.proofs.Plain as plain
 use Rattle.rows.proofs.Ruled as ruled
 use Rattle.rows.proofs.Shown as shown
-use Rattle.rows.specs.Claims.{ErrorTable, BankNames, CommandTable, NoPassword, ErrorRowExample, WideRowExample, MalformedRowExample, DropRowExample, OneByteExample, FiveReasonsExample, DroppedSum, WaitingRowExample, OneWaitsExample, RowsFit, ColumnsApart, PlainText, RowsRuled, BoxesStay}
-
-pub error-table : ErrorTable
-error-table = shown.error-table
-
-pub bank-names : BankNames
-bank-names = shown.bank-names
-
-pub command-table : (password : ℕ) → CommandTable password
-command-table = shown.command-table
-
-pub no-password : (code p q : ℕ) → NoPassword code p q
-no-password = shown.no-password
+use Rattle.rows.specs.Claims.{ErrorRowExample, WideRowExample, MalformedRowExample, DropRowExample, OneByteExample, FiveReasonsExample, DroppedSum, WaitingRowExample, OneWaitsExample, RowsFit, ColumnsApart, PlainText, RowsRuled, BoxesStay}
 
 pub error-row : ErrorRowExample
 error-row = shown.error-row

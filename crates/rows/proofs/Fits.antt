@@ -1,30 +1,26 @@
 -- How long rows are, and how long the text of a column is at most.
-use Prim.Native.Nat.{ℕ, zero, suc, _+_, _-_, _/_, _%_, _^_, _≤_, _<_}
-use borrow.Author.Tests.{le-leb, lt-leb, ltb-true, ltb-false}
-use lib.Dec.{eqb, ltb}
+use Prim.Native.Nat.{ℕ, zero, suc, _+_, _-_, _≤_, _<_}
+use borrow.Author.Tests.{le-leb, lt-leb}
+use lib.Dec.{eqb}
 use lib.ListN.{length, length-append}
 use lib.Seq.{sets, length-sets}
 use mathlib.Core.List.{List, _++_}
 use mathlib.Core.Path.{_≡_, refl, sym, _∙_}
 use native.Mathlib.Omega.{arith}
 use Rattle.frame.proofs.Picks.{by-test, pick-true, pick-false}
-use Rattle.frame.proofs.Tests.{either}
 use Rattle.frame.specs.Bytes.{pick}
+use Rattle.naming.proofs.Widths.{decimal-most}
+use Rattle.naming.specs.Commands.{commandText}
+use Rattle.naming.specs.Errors.{errorText}
 use Rattle.reader.specs.declared.tally.Tally.{Tally}
-use Rattle.text.proofs.Chains.{hex-short}
-use Rattle.rows.proofs.ErrorTexts.{error-words-short}
 use Rattle.rows.proofs.Layers.{length-boxed, length-two, length-three}
 use Rattle.rows.proofs.Reasons.{some-shown, length-reasons}
 use Rattle.rows.proofs.RowTexts.{same-rows}
 use Rattle.rows.specs.Claims.{one, reasons, RowsFit, ColumnsApart}
 use Rattle.rows.specs.Columns.{boxedRow, blankRows, numbered}
-use Rattle.rows.specs.Commands.{bankName, aimText, bitsText, lockText, fieldsText, commandText}
-use Rattle.rows.specs.Errors.{errorText}
 use Rattle.rows.specs.Rows.{rangeText, bytesText, isSome, reasonsIn, cellText, droppedIn, errorRow, dropRows, waitingRow}
 use Rattle.tag.specs.declared.commands.Parsed.{Parsed}
-use Rattle.tag.specs.declared.commands.Parsed.the-variants.{Malformed, Inventory, Read, Write, Lock, Kill}
-use Rattle.text.proofs.Decimals.{width-one, width-more, length-decimal}
-use Rattle.text.specs.Digits.{width, decimal}
+use Rattle.text.specs.Digits.{decimal}
 use Rattle.text.specs.Words.{ascii}
 
 -- ---- rows
@@ -82,15 +78,6 @@ rows-fit =
 
 -- ---- columns
 
-width-most : (k n : ℕ) → n < 10 ^ suc k → width n ≤ suc k
-width-most zero n h = omega (arith, width-one n (omega arith))
-width-most (suc k) n h =
-    either (ltb n 10) (λ t. omega (arith, width-one n (ltb-true n 10 t)))
-    (λ t. omega (arith, width-more n (ltb-false n 10 t), width-most k (n / 10) (omega arith)))
-
-decimal-most : (k n : ℕ) → n < 10 ^ suc k → length (decimal n) ≤ suc k
-decimal-most k n h = omega (arith, length-decimal n (width n) refl, width-most k n h)
-
 range-short : (first last : ℕ) → first < 32768 → last < 32768 → length (rangeText first last) ≤ 12
 unfolding rangeText
 range-short first last h k =
@@ -98,55 +85,6 @@ range-short first last h k =
     let to : length (decimal last) ≤ 5 = decimal-most 4 last (omega arith) in
     by-test (λ (text : List ℕ). length text ≤ 12) (eqb first last) (λ _. omega arith)
     (λ _. simp length-append (omega arith))
-
-bank-short : (bank : ℕ) → length (bankName bank) ≤ 8
-unfolding bankName
-bank-short bank =
-    by-test (λ (text : List ℕ). length text ≤ 8) (eqb bank 0) (λ _. omega arith)
-    (λ _.
-    by-test (λ (text : List ℕ). length text ≤ 8) (eqb bank 1) (λ _. omega arith)
-    (λ _. by-test (λ (text : List ℕ). length text ≤ 8) (eqb bank 2) (λ _. omega arith) (λ _. omega arith)))
-
-aim-short : (bank pointer count : ℕ) → pointer < 65536 → count ≤ 32 → length (aimText bank pointer count) ≤ 17
-unfolding aimText
-aim-short bank pointer count h k =
-    simp length-append (omega (arith, bank-short bank, decimal-most 4 pointer (omega arith), decimal-most 1 count (omega arith)))
-
-bits-short : (bits : ℕ) → length (bitsText bits) ≤ 4
-unfolding bitsText
-bits-short bits = simp length-append (omega (arith, hex-short (bits / 256 % 256), hex-short (bits % 256)))
-
-lock-short : (mask action : ℕ) → length (lockText mask action) ≤ 27
-unfolding lockText
-lock-short mask action = simp length-append (omega (arith, bits-short mask, bits-short action))
-
-command-short : (code : ℕ) (parsed : Parsed) → length (fieldsText parsed) ≤ 27 → length (commandText code parsed) ≤ 29
-unfolding commandText
-command-short code parsed few = simp length-append (omega (arith, hex-short code))
-
-fields-malformed : length (fieldsText Malformed) ≤ 27
-unfolding fieldsText
-fields-malformed = omega arith
-
-fields-inventory : length (fieldsText Inventory) ≤ 27
-unfolding fieldsText
-fields-inventory = omega arith
-
-fields-read : (p bank pointer count : ℕ) → pointer < 65536 → count ≤ 32 → length (fieldsText (Read p bank pointer count)) ≤ 27
-unfolding fieldsText
-fields-read p bank pointer count h k = simp length-append (omega (arith, aim-short bank pointer count h k))
-
-fields-write : (p bank pointer count : ℕ) → pointer < 65536 → count ≤ 32 → length (fieldsText (Write p bank pointer count)) ≤ 27
-unfolding fieldsText
-fields-write p bank pointer count h k = simp length-append (omega (arith, aim-short bank pointer count h k))
-
-fields-lock : (p mask action : ℕ) → length (fieldsText (Lock p mask action)) ≤ 27
-unfolding fieldsText
-fields-lock p mask action = lock-short _ _
-
-fields-kill : (p : ℕ) → length (fieldsText (Kill p)) ≤ 27
-unfolding fieldsText
-fields-kill p = omega arith
 
 -- `dropped` and `waiting` are as long
 fate-short : (n : ℕ) (fate : List ℕ) → n < 32769 → length fate ≤ 8 → length (bytesText n ++ fate) ≤ 29
@@ -156,10 +94,6 @@ fate-short n fate h few =
     by-test (λ (text : List ℕ). length text ≤ 6) (eqb n 1) (λ _. omega arith) (λ _. omega arith)
     in
     simp length-append (omega (arith, decimal-most 4 n (omega arith), word))
-
-error-short : (e : ℕ) → length (errorText e) ≤ 36
-unfolding errorText
-error-short e = simp length-append (omega (arith, hex-short e, error-words-short e))
 
 reason-short : (n : ℕ) (word : List ℕ) → n < 32769 → length word ≤ 11 → length (cellText n word) ≤ 17
 unfolding cellText
@@ -171,14 +105,7 @@ columns-apart =
       number = decimal-most 3;
       position = λ first h. omega (arith, decimal-most 4 first (omega arith));
       range = range-short;
-      malformed = λ code. command-short code Malformed fields-malformed;
-      inventory = λ code. command-short code Inventory fields-inventory;
-      read = λ code p bank pointer count h k. command-short code (Read p bank pointer count) (fields-read p bank pointer count h k);
-      write = λ code p bank pointer count h k. command-short code (Write p bank pointer count) (fields-write p bank pointer count h k);
-      lock = λ code p mask action. command-short code (Lock p mask action) (fields-lock p mask action);
-      kill = λ code p. command-short code (Kill p) (fields-kill p);
       dropped = λ n h. fate-short n (ascii " dropped") h (omega arith);
       waiting = λ n h. fate-short n (ascii " waiting") h (omega arith);
-      error = error-short;
       reason = reason-short;
     }

@@ -5,7 +5,7 @@ use lib.Dec.{eqb, leb}
 use lib.ListN.{length, length-append}
 use lib.Seq.{sets, length-sets}
 use mathlib.Core.Bool.{true, false}
-use mathlib.Core.List.{List, [], _∷_, _++_}
+use mathlib.Core.List.{List, _++_}
 use mathlib.Core.Path.{_≡_, refl, ap, sym, _∙_}
 use native.Mathlib.Omega.{arith}
 use Rattle.frame.proofs.Picks.{by-test, pick-true, pick-false}
@@ -21,7 +21,6 @@ use Rattle.text.proofs.Puts.{put-join}
 use Rattle.text.proofs.Decimals.{length-decimal}
 use Rattle.text.specs.Digits.{width, decimal}
 use Rattle.text.specs.Laying.{Laid, spaces}
-use Rattle.text.specs.Words.{ascii}
 
 -- ---- how long rows are
 
@@ -137,17 +136,6 @@ module _ (reasons at : ℕ) (before : List ℕ) where
   three-rows middle later after second third next many first more last =
       let two = put-join boxedRow plainRow at before middle later second third first more in
       rw (lt-leb reasons 2 (omega arith), pick-false, lt-leb reasons 4 many, pick-false) (put-join (boxedRow ++ plainRow) plainRow at before later after third next two last)
-
--- a row that ends with its newline
-pub boxed-put : (at : ℕ) (before middle after : List ℕ) (boxes next : ℕ) → Put (spaces 88) at before middle boxes
-    → Put (ascii "  [ ]   [ ]" ++ (10 ∷ [])) boxes middle after next → Put boxedRow at before after next
-unfolding boxedRow
-boxed-put at before middle after boxes next = put-join (spaces 88) _ at before middle after boxes next
-
-pub plain-put : (at : ℕ) (before middle after : List ℕ) (last next : ℕ) → Put (spaces 99) at before middle last → Put (10 ∷ []) last middle after next
-    → Put plainRow at before after next
-unfolding plainRow
-plain-put at before middle after last next = put-join (spaces 99) _ at before middle after last next
 
 -- a piece that was laid stands there, where it has room
 pub as-put : (piece : List ℕ) (at : ℕ) (before after : List ℕ) (result : ℕ) → Laid piece at before after result → at + length piece ≤ length before

@@ -1,8 +1,5 @@
 pub mod Boxes
-pub mod Choices
 pub mod Claimed
-pub mod CommandTexts
-pub mod ErrorTexts
 pub mod Fits
 pub mod Layers
 pub mod Plain

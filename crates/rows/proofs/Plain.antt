@@ -8,18 +8,20 @@ use mathlib.Core.List.{List, [], _∷_, _++_}
 use mathlib.Core.Path.{_≡_, refl, sym}
 use Rattle.frame.proofs.Picks.{by-test}
 use Rattle.frame.proofs.Tests.{and-left, and-right, and-both, or-second}
+use Rattle.naming.proofs.Printed.{isPrinted, decimal-printed, command-printed, error-printed}
+use Rattle.naming.specs.Claims.{printed}
+use Rattle.naming.specs.Commands.{commandText}
+use Rattle.naming.specs.Errors.{errorText}
 use Rattle.reader.specs.declared.tally.Tally.{Tally}
 use Rattle.rows.specs.Claims.{plain, PlainText}
 use Rattle.rows.specs.Columns.{boxedRow, plainRow, numberPlace, numbered, blankRows}
-use Rattle.rows.specs.Commands.{commandText}
-use Rattle.rows.specs.Errors.{errorText}
 use Rattle.rows.specs.Rows.{rangeText, bytesText, reasonsIn, cellPlace, cellText, withCell, withReasons, droppedIn, errorRow, dropRows, itemRows, waitingRow}
 use Rattle.rows.specs.declared.items.Item.{Item}
 use Rattle.tag.specs.declared.commands.Parsed.{Parsed}
 use Rattle.text.specs.Digits.{decimal}
 use Rattle.text.specs.Laying.{spaces}
 use Rattle.text.specs.Words.{ascii}
-use Rattle.rows.proofs.Printed.{isPrinted, printed, decimal-printed, range-printed, command-printed, error-printed, cell-printed, fate-printed}
+use Rattle.rows.proofs.Printed.{range-printed, cell-printed, fate-printed}
 
 abbrev isPlain : ℕ → Bool
 isPlain b = eqb b 10 || (leb 32 b && leb b 126)

@@ -11,18 +11,19 @@ use native.Mathlib.Omega.{arith}
 use Rattle.frame.proofs.Picks.{by-test, pick-true, pick-false}
 use Rattle.frame.specs.Bytes.{pick}
 use Rattle.frame.specs.Putting.{Put}
+use Rattle.naming.specs.Commands.{commandText}
+use Rattle.naming.specs.Errors.{errorText}
 use Rattle.reader.specs.declared.tally.Tally.{Tally}
 use Rattle.text.proofs.Chains.{PutBy, laid-by, more-by}
 use Rattle.rows.proofs.Layers.{length-boxed, blank-long, blank-least, blank-most, Based, lay, number}
 use Rattle.rows.proofs.Reasons.{some-one, length-reasons, Short, reasons-put}
 use Rattle.rows.specs.Columns.{boxedRow, blankRows, numberPlace, numbered}
-use Rattle.rows.specs.Commands.{commandText}
-use Rattle.rows.specs.Errors.{errorText}
 use Rattle.rows.specs.Rows.{rangeText, bytesText, isSome, reasonsIn, withReasons, droppedIn, errorRow, dropRows, itemRows, waitingRow}
 use Rattle.rows.specs.declared.items.Item.{Item}
 use Rattle.tag.specs.declared.commands.Parsed.{Parsed}
+use Rattle.text.proofs.Laying.{within-put}
 use Rattle.text.specs.Digits.{decimal}
-use Rattle.text.specs.Laying.{Laid}
+use Rattle.text.specs.Laying.{Laid, LaidWithin}
 use Rattle.text.specs.Words.{ascii}
 
 module _ (at : ℕ) (before : List ℕ) where
@@ -125,15 +126,17 @@ module _ (at : ℕ) (before : List ℕ) (next : ℕ) where
   pub error-row : (n first code error : ℕ) (parsed : Parsed) (b1 b2 b3 b4 b5 : List ℕ) (r3 r4 r5 : ℕ) → Put boxedRow at before b1 next
       → length (decimal n) ≤ 20 → b2 ≡ sets b1 (at + numberPlace n) (decimal n)
       → length (decimal first) ≤ 20 → Put (decimal first) (at + 7) b2 b3 r3
-      → Put (commandText code parsed) (at + 20) b3 b4 r4 → r4 ≤ at + 20 + 59
-      → Put (errorText error) (at + 50) b4 b5 r5 → r5 ≤ at + 50 + 36
+      → at + 79 ≤ length b3 → LaidWithin 59 (commandText code parsed) (at + 20) b3 b4 r4
+      → at + 86 ≤ length b4 → LaidWithin 36 (errorText error) (at + 50) b4 b5 r5
       → Put (errorRow n first code parsed error) at before b5 next
   unfolding errorRow
-  error-row n first code error parsed b1 b2 b3 b4 b5 r3 r4 r5 boxed n-short numbers first-short range command command-short result result-short =
+  error-row n first code error parsed b1 b2 b3 b4 b5 r3 r4 r5 boxed n-short numbers first-short range command-room command error-room result =
       let base = number at before next boxedRow b1 b2 n (boxed-base b1 boxed) n-short numbers in
       let ranged = lay at before next _ b2 b3 7 (decimal first) base (omega arith) (range .output-is) in
-      let named = lay at before next _ b3 b4 20 (commandText code parsed) ranged (omega (arith, command .next-is)) (command .output-is) in
-      lay at before next _ b4 b5 50 (errorText error) named (omega (arith, result .next-is)) (result .output-is) .put
+      let name = within-put 59 (commandText code parsed) (at + 20) b3 b4 r4 (omega arith) command in
+      let words = within-put 36 (errorText error) (at + 50) b4 b5 r5 (omega arith) result in
+      let named = lay at before next _ b3 b4 20 (commandText code parsed) ranged (omega (arith, command .short)) (name .output-is) in
+      lay at before next _ b4 b5 50 (errorText error) named (omega (arith, result .short)) (words .output-is) .put
 
   pub drop-rows : (n first last reasons dropped : ℕ) (t : Tally) (b1 b2 b3 b4 b5 : List ℕ) (r3 r4 : ℕ) → Short t → reasons ≡ reasonsIn t → dropped ≡ droppedIn t
       → Put (blankRows reasons) at before b1 next

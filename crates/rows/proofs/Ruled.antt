@@ -11,13 +11,16 @@ use native.Mathlib.Omega.{arith}
 use Rattle.frame.proofs.Picks.{by-test, pick-false}
 use Rattle.frame.proofs.Tests.{and-left, and-right, and-both}
 use Rattle.frame.specs.Bytes.{pick}
+use Rattle.naming.proofs.Printed.{isPrinted, decimal-printed, command-printed, error-printed}
+use Rattle.naming.proofs.Widths.{error-short}
+use Rattle.naming.specs.Claims.{printed}
+use Rattle.naming.specs.Commands.{commandText}
+use Rattle.naming.specs.Errors.{errorText}
 use Rattle.reader.specs.declared.tally.Tally.{Tally}
 use Rattle.rows.proofs.Fits.{columns-apart}
-use Rattle.rows.proofs.Printed.{isPrinted, printed, decimal-printed, range-printed, command-printed, error-printed, cell-printed, fate-printed}
+use Rattle.rows.proofs.Printed.{range-printed, cell-printed, fate-printed}
 use Rattle.rows.specs.Claims.{ruled, RowsRuled}
 use Rattle.rows.specs.Columns.{boxedRow, plainRow, numberPlace, numbered, blankRows}
-use Rattle.rows.specs.Commands.{commandText}
-use Rattle.rows.specs.Errors.{errorText}
 use Rattle.rows.specs.Rows.{rangeText, bytesText, reasonsIn, cellPlace, cellText, withCell, withReasons, droppedIn, errorRow, dropRows, waitingRow}
 use Rattle.tag.specs.declared.commands.Parsed.{Parsed}
 use Rattle.text.specs.Digits.{decimal}
@@ -65,7 +68,7 @@ error-ruled : (n first code e : ℕ) (parsed : Parsed) → n < 10000 → first <
 unfolding errorRow
 error-ruled n first code e parsed few low byte small short =
     let ranged : List ℕ = sets (numbered n boxedRow) 7 (decimal first) in
-    over (sets ranged 20 (commandText code parsed)) 50 (errorText e) (omega (arith, columns-apart .error e)) (error-printed e small)
+    over (sets ranged 20 (commandText code parsed)) 50 (errorText e) (omega (arith, error-short e)) (error-printed e small)
     (over ranged 20 (commandText code parsed) (omega arith) (command-printed code parsed byte)
     (over (numbered n boxedRow) 7 (decimal first) (omega (arith, columns-apart .position first low)) (decimal-printed first)
     (numbered-ruled n boxedRow few boxed-ruled)))

@@ -1,11 +1,10 @@
--- What is computed: the words of the errors, of the banks and of the commands, and whole rows.
-use Prim.Native.Nat.{ℕ}
+-- What is computed: whole rows, as literal text.
 use mathlib.Core.Path.{refl}
 use Rattle.frame.specs.Bytes.{pick, firstOf}
-use Rattle.rows.specs.Claims.{ErrorTable, BankNames, CommandTable, NoPassword, ErrorRowExample, WideRowExample, MalformedRowExample, DropRowExample, OneByteExample, FiveReasonsExample, DroppedSum, WaitingRowExample, OneWaitsExample}
+use Rattle.naming.specs.Commands.{bankName, aimText, bitsText, lockText, fieldsText, commandText}
+use Rattle.naming.specs.Errors.{tagWords, errorWords, errorText}
+use Rattle.rows.specs.Claims.{ErrorRowExample, WideRowExample, MalformedRowExample, DropRowExample, OneByteExample, FiveReasonsExample, DroppedSum, WaitingRowExample, OneWaitsExample}
 use Rattle.rows.specs.Columns.{boxedRow, plainRow, numberPlace, numbered, blankRows}
-use Rattle.rows.specs.Commands.{bankName, aimText, bitsText, lockText, fieldsText, commandText}
-use Rattle.rows.specs.Errors.{tagWords, errorWords, errorText}
 use Rattle.rows.specs.Rows.{rangeText, bytesText, errorRow, isSome, reasonsIn, cellPlace, cellText, withCell, withReasons, droppedIn, dropRows, itemRows, waitingRow}
 use Rattle.text.specs.Digits.{hexDigit, hexByte, widthBy, width, digits, decimal}
 use Rattle.text.specs.Laying.{spaces}
@@ -14,22 +13,6 @@ use Rattle.text.specs.Laying.{spaces}
 opened : Unit {0}
 unfolding pick firstOf boxedRow plainRow numberPlace numbered blankRows bankName aimText bitsText lockText fieldsText commandText tagWords errorWords errorText rangeText bytesText errorRow isSome reasonsIn cellPlace cellText withCell withReasons droppedIn dropRows itemRows waitingRow hexDigit hexByte widthBy width digits decimal spaces
 opened = tt
-
-pub error-table : ErrorTable
-unfolding opened
-error-table = refl
-
-pub bank-names : BankNames
-unfolding opened
-bank-names = refl
-
-pub command-table : (password : ℕ) → CommandTable password
-unfolding opened
-command-table password = record { inventory = refl; read = refl; write = refl; lock = refl; kill = refl; malformed = refl }
-
-pub no-password : (code p q : ℕ) → NoPassword code p q
-unfolding commandText fieldsText
-no-password code p q = record { read = λ _ _ _. refl; write = λ _ _ _. refl; lock = λ _ _. refl; kill = refl }
 
 pub error-row : ErrorRowExample
 unfolding opened

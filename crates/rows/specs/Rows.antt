@@ -4,10 +4,10 @@ use mathlib.Core.List.{List, _++_}
 use lib.Dec.{eqb}
 use lib.Seq.{sets}
 use Rattle.frame.specs.Bytes.{pick}
+use Rattle.naming.specs.Commands.{commandText}
+use Rattle.naming.specs.Errors.{errorText}
 use Rattle.reader.specs.declared.tally.Tally.{Tally}
 use Rattle.rows.specs.Columns.{byteColumn, commandColumn, resultColumn, boxedRow, blankRows, numbered}
-use Rattle.rows.specs.Commands.{commandText}
-use Rattle.rows.specs.Errors.{errorText}
 use Rattle.rows.specs.declared.items.Item.{Item}
 use Rattle.tag.specs.declared.commands.Parsed.{Parsed}
 use Rattle.text.specs.Digits.{decimal}

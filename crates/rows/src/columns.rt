@@ -5,27 +5,36 @@ use text::putting::missing;
 use text::putting::put_spaces;
 use text::putting::put_text;
 ghost use mathlib.Core.Path.{_≡_};
+ghost use mathlib.Core.List.{_++_};
 ghost use Prim.Native.Nat.{_+_, _≤_};
 ghost use lib.ListN.{length};
 ghost use lib.Seq.{sets};
 ghost use Rattle.frame.specs.Putting.{Put};
 ghost use Rattle.rows.specs.Columns.{boxedRow, plainRow, blankRows, numberPlace};
 ghost use Rattle.text.specs.Digits.{decimal};
+ghost use Rattle.text.specs.Laying.{spaces};
+
+// A row with nothing in it: blanks, and what ends it.
+fn put_row(buffer: &mut [u8], at: usize, blanks: usize, ending: &[u8]) -> usize
+    requires { ⌜ at + blanks + length (now ending) ≤ length (now buffer) ⌝ }
+    ensures { λ r. ⌜ Put (spaces blanks ++ now (ending .entry)) at (now (buffer .entry)) (now (buffer .exit)) r ⌝ }
+{
+    let last = put_spaces(buffer, at, blanks);
+    put_text(buffer, last, ending)
+}
 
 pub(crate) fn put_boxed(buffer: &mut [u8], at: usize) -> usize
     requires { ⌜ at + 100 ≤ length (now buffer) ⌝ }
     ensures { λ r. ⌜ Put boxedRow at (now (buffer .entry)) (now (buffer .exit)) r ⌝ }
 {
-    let boxes = put_spaces(buffer, at, 88);
-    put_text(buffer, boxes, b"  [ ]   [ ]\n")
+    put_row(buffer, at, 88, b"  [ ]   [ ]\n")
 }
 
 fn put_plain(buffer: &mut [u8], at: usize) -> usize
     requires { ⌜ at + 100 ≤ length (now buffer) ⌝ }
     ensures { λ r. ⌜ Put plainRow at (now (buffer .entry)) (now (buffer .exit)) r ⌝ }
 {
-    let last = put_spaces(buffer, at, 99);
-    put_text(buffer, last, b"\n")
+    put_row(buffer, at, 99, b"\n")
 }
 
 // As many rows as so many reasons take.

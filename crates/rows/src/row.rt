@@ -2,12 +2,12 @@
 use crate::columns::put_blank;
 use crate::columns::put_boxed;
 use crate::columns::put_number;
-use crate::commands::put_command;
 use crate::drops::put_reasons;
 use crate::drops::reasons_in;
-use crate::errors::put_error;
 use crate::items::Item;
 use frame::bytes::reaches;
+use naming::commands::put_command;
+use naming::errors::put_error;
 use reader::tally::Tally;
 use tag::commands::Parsed;
 use text::digits::put_decimal;

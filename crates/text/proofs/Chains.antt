@@ -11,7 +11,7 @@ use Rattle.text.proofs.Puts.{put-join}
 use Rattle.text.specs.Digits.{hexByte}
 use Rattle.text.specs.Laying.{Laid}
 
--- the piece is put, and takes at most so many bytes: what the functions of this crate promise
+-- the piece is put, and takes at most so many bytes: what a function promises that puts its pieces one behind the other
 abbrev pub PutBy : ℕ → List ℕ → ℕ → List ℕ → List ℕ → ℕ → Type 0
 PutBy most piece at before after result = Put piece at before after result × (result ≤ at + most)
 

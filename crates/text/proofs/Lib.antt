@@ -1,5 +1,5 @@
-pub mod Claimed
 pub mod Chains
+pub mod Claimed
 pub mod CountPuts
 pub mod Decimals
 pub mod HexPuts

@@ -44,7 +44,9 @@ returns c =
     let start = boxed .before .before .before in
     let short = decimal-64 (start .args .first) (omega (arith, start .fits .first)) in
     let there = as-put _ _ _ _ _ (range .put-decimal .ensures) (omega (arith, short, boxed .put-boxed .kept .0, numbers .put-number .kept .0)) in
-    error-row _ _ _ _ _ _ _ _ _ _ _ _ _ _ _ _ (boxed .put-boxed .ensures) (decimal-64 (start .args .n) (omega (arith, start .fits .n))) (numbers .put-number .ensures) short there (command .put-command .ensures .0) (command .put-command .ensures .1) (result .put-error .ensures .0) (result .put-error .ensures .1)
+    error-row _ _ _ _ _ _ _ _ _ _ _ _ _ _ _ _ (boxed .put-boxed .ensures) (decimal-64 (start .args .n) (omega (arith, start .fits .n))) (numbers .put-number .ensures) short there
+    (omega (arith, boxed .put-boxed .kept .0, numbers .put-number .kept .0, range .put-decimal .kept .0)) (command .put-command .ensures)
+    (omega (arith, boxed .put-boxed .kept .0, numbers .put-number .kept .0, range .put-decimal .kept .0, command .put-command .kept .0)) (result .put-error .ensures)
 
 pub put-error-row-spec : {M : Type 1} → statement M
 put-error-row-spec = tie.close (tie.spec put-boxed-requires put-number-requires add-put-decimal put-decimal-requires add-put-command put-command-requires add-put-error put-error-requires same-length returns)
