@@ -4,12 +4,13 @@ use Rattle.machine.proofs.Bounding as Bounding
 use Rattle.machine.proofs.Carrying as Carrying
 use Rattle.machine.proofs.Counting as Counting
 use Rattle.machine.proofs.Effecting as Effecting
+use Rattle.machine.proofs.ErrorBytes as ErrorBytes
 use Rattle.machine.proofs.Framing as Framing
 use Rattle.machine.proofs.Handing as Handing
 use Rattle.machine.proofs.Instances as Instances
 use Rattle.machine.proofs.Secrets as Secrets
 use Rattle.machine.proofs.Staying as Staying
-use Rattle.machine.specs.Claims.{AnswerNumbers, DropReasons, NothingChanges, DropTakesOneByte, AnswerIsOneFrame, HandOut, ExactlyOnce, InventoryStarts, CommandsAim, CommandsMiss, SetSelect, Starred, WriteEffect, LockEffect, KillEffect, NoOtherEffect, GapsStay, PermalocksStay, OneTagOnly, GoodStaysGood, History, WorkFalls, Bound, Demand3, Demand3CanBeMet}
+use Rattle.machine.specs.Claims.{AnswerNumbers, DropReasons, NothingChanges, DropTakesOneByte, AnswerIsOneFrame, ErrorsHaveAByte, HandOut, ExactlyOnce, InventoryStarts, CommandsAim, CommandsMiss, SetSelect, Starred, WriteEffect, LockEffect, KillEffect, NoOtherEffect, GapsStay, PermalocksStay, OneTagOnly, GoodStaysGood, History, WorkFalls, Bound, Demand3, Demand3CanBeMet}
 
 pub answer-numbers : AnswerNumbers
 answer-numbers = Answering.answer-numbers
@@ -25,6 +26,9 @@ drop-takes-one-byte = Answering.drop-takes-one-byte
 
 pub answer-is-one-frame : AnswerIsOneFrame
 answer-is-one-frame = Framing.answer-is-one-frame
+
+pub errors-have-a-byte : ErrorsHaveAByte
+errors-have-a-byte = ErrorBytes.errors-named
 
 pub hand-out : HandOut
 hand-out = Handing.hand-out

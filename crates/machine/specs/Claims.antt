@@ -125,6 +125,11 @@ pub record OneFrame (c : Call) (s : State) (x : Step) : Type 0 where
 abbrev pub AnswerIsOneFrame : Type 0
 AnswerIsOneFrame = (c : Call) (s : State) → answerOf c s ≡ 0 → OneFrame c s (step c s)
 
+-- "A plain error frame has code FF and one byte; a tag error frame has code FF, the byte and the tail": no such byte is 0, so that 0 may stand for a drop
+-- wherever failures are told
+abbrev pub ErrorsHaveAByte : Type 0
+ErrorsHaveAByte = (c : Call) (s : State) → answerOf c s ≡ 0 → byte (step c s .next .output) 2 ≡ 0xFF → 0 < byte (step c s .next .output) 5
+
 -- ---- Hand-out: "Inventory hands out each matching present tag exactly once, in rising number, one per call, then takes the next command"
 
 -- A tag is still to hand out, and no test 10 to 13 refuses: "The cursor moves with the first of them only, each raises the good count"; "one no longer present and

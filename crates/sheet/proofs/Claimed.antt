@@ -1,6 +1,4 @@
 -- Every claim of specs/Claims.antt holds.
-use Rattle.machine.proofs.ErrorBytes.{errors-named}
-use Rattle.machine.specs.Machine.{call}
 use Rattle.sheet.proofs.Balancing as Balancing
 use Rattle.sheet.proofs.Itemising as Itemising
 use Rattle.sheet.proofs.Measuring as Measuring
@@ -10,15 +8,12 @@ use Rattle.sheet.proofs.Sampled as Sampled
 use Rattle.sheet.proofs.Secrets as Secrets
 use Rattle.sheet.proofs.Sheets as Sheets
 use Rattle.sheet.proofs.Summing as Summing
-use Rattle.sheet.specs.Claims.{EveryFailureOnce, ErrorsHaveAByte, RowForEachItem, ItemsCounted, BalanceHolds, ReasonsSummed, BytesOfDrops, Rising, SameSheet, GoodCrateSheet, NoSheet, PieceByPiece, PiecesAreTheText, EnoughPieces, FootLines, WhatWaits, SampleSheet}
+use Rattle.sheet.specs.Claims.{EveryFailureOnce, RowForEachItem, ItemsCounted, BalanceHolds, ReasonsSummed, BytesOfDrops, Rising, SameSheet, GoodCrateSheet, NoSheet, PieceByPiece, PiecesAreTheText, EnoughPieces, FootLines, WhatWaits, SampleSheet}
 
 -- ---- the items
 
 pub every-failure-once : EveryFailureOnce
 every-failure-once = Itemising.every-failure-once
-
-pub errors-have-a-byte : ErrorsHaveAByte
-errors-have-a-byte input s = errors-named (call input) s
 
 pub row-for-each-item : RowForEachItem
 row-for-each-item = Numbered.row-for-each-item

@@ -5,8 +5,7 @@ use mathlib.Core.List.{List, [], _∷_, _++_}
 use mathlib.Core.Logic.{_⊎_}
 use mathlib.Core.Path.{_≡_}
 use lib.ListN.{length, drop, replicate}
-use Rattle.frame.specs.Bytes.{byte}
-use Rattle.machine.specs.Claims.{answerOf, inventories, Premises, withMemory}
+use Rattle.machine.specs.Claims.{inventories, Premises, withMemory}
 use Rattle.machine.specs.Machine.{State, call, step, work}
 use Rattle.machine.specs.Secrecy.{accepted}
 use Rattle.frame.specs.declared.finding.Reason.{Reason}
@@ -34,14 +33,9 @@ use Rattle.text.specs.Words.{ascii}
 -- ---- the items
 
 -- "Eleven failures were missing from that report." After any number of calls, from a standing with no items, the items stand for exactly the failures of these calls,
--- each once and in their order: every error answer with its place and its byte, and every dropped byte.
+-- each once and in their order: every error answer with its place and its byte, which is never 0 (`ErrorsHaveAByte` in machine), and every dropped byte.
 abbrev pub EveryFailureOnce : Type 0
 EveryFailureOnce = (k : ℕ) (input : List ℕ) (s : Standing) → s .items .count ≡ 0 → allFaults (itemised k input s) ≡ faults k input (s .bench)
-
--- An error answer has a byte above 0, which is what an item of drops has: so none is laid out as drops.
-abbrev pub ErrorsHaveAByte : Type 0
-ErrorsHaveAByte =
-    (input : List ℕ) (s : State) → answerOf (call input) s ≡ 0 → byte (step (call input) s .next .output) 2 ≡ 0xFF → 0 < byte (step (call input) s .next .output) 5
 
 -- the sheet goes on for k calls, and the next one ends it
 unfoldable pub goesOn : ℕ → List ℕ → State → Type 0
