@@ -49,7 +49,7 @@ fn print_pieces(
 }
 
 // The line of files that are not run, by way of a lent buffer. The result says whether standard output took it.
-pub fn print_notice(files: Files, buffer: &mut [u8]) -> bool
+fn print_notice(files: Files, buffer: &mut [u8]) -> bool
     ensures { λ _. ⌜ Noticed files (now (buffer .entry)) (now (buffer .exit)) ⌝ }
 {
     let used = write_notice(files, buffer);

@@ -22,18 +22,19 @@ use Rattle.report.proofs.Together.{work-at-start}
 use Rattle.report.proofs.Whole.{Taken, all-taken, ends-by, none-waits, few-bytes}
 use Rattle.report.specs.Lines.{tooLongLine, unreadableLine, ends}
 use Rattle.report.specs.Report.{tooLong, placesOf, fresh}
-use Rattle.sheet.proofs.Accepting.{all-accepted}
-use Rattle.sheet.proofs.Numbered.{row-for-each-item}
-use Rattle.sheet.proofs.Tellings.{falls}
-use Rattle.sheet.specs.Claims.{goesOn, GoodCrateSheet, NoSheet, PieceByPiece, PiecesAreTheText, EnoughPieces}
+use Rattle.page.proofs.Accepting.{all-accepted}
+use Rattle.sheet.proofs.Balancing.{bench-after}
+use Rattle.sheet.proofs.Claimed.{row-for-each-item}
+use Rattle.page.specs.Claims.{GoodCrateSheet, NoSheet}
+use Rattle.page.specs.Page.{sheetOf, printedSheet}
+use Rattle.sheet.specs.Claims.{goesOn}
 use Rattle.head.specs.Head.{headOf}
 use Rattle.sheet.specs.Itemised.{advanced, itemised, rowsFrom}
-use Rattle.sheet.specs.Sheet.{Standing, foot, endFor, teller, begunOn, sheetOf, printedSheet}
+use Rattle.sheet.specs.Sheet.{Standing, foot, endFor, teller, begunOn}
 use Rattle.sheet.specs.declared.items.Items.{Items}
-use Rattle.text.proofs.Told.{left-is, splits, whole, enough}
 use Rattle.text.specs.Counts.{refusedWord, countPart, refusedLine}
 use Rattle.text.specs.Digits.{widthBy, width, digits, decimal}
-use Rattle.text.specs.Telling.{left, textFrom}
+use Rattle.text.specs.Telling.{textFrom}
 use Rattle.text.specs.Words.{ascii}
 
 neither : (n : ℕ) → (n ≡ 1 → ⊥) → (n ≡ 2 → ⊥) → (n ≡ 1) ⊎ (n ≡ 2) → ⊥
@@ -51,16 +52,6 @@ module _ (input : List ℕ) where
   goes-by (suc k) s all last =
       let t = all-taken input k s all in
       (ends-is (step (call input) s) (step (call input) s .outcome) refl ∙ ap not (t .first), goes-by k (step (call input) s .next) (t .rest) last)
-
-  -- and the bench is the machine's
-  next-bench : (k : ℕ) (s : Standing) → after (replicate k (call input)) (teller input .next s .bench) ≡ after (replicate k (call input)) (step (call input) (s .bench) .next)
-  unfolding teller
-  next-bench k s = refl
-
-  bench-is : (k : ℕ) (s : Standing) → advanced k input s .bench ≡ after (replicate k (call input)) (s .bench)
-  unfolding advanced after
-  bench-is zero s = refl
-  bench-is (suc k) s = bench-is k (teller input .next s) ∙ next-bench k s
 
   -- the call that is answered 1 or 2 ends the sheet with the foot
   foot-is : (reader : Reader) (items : Items) (o : Outcome) → (numberOf o ≡ 1) ⊎ (numberOf o ≡ 2) → endFor input reader items o ≡ foot input reader items
@@ -97,7 +88,7 @@ module _ (input : List ℕ) where
       ∙ ap (λ (l : List ℕ). rowsFrom 1 input (itemised k input s) ++ l)
       (foot-is (step (call input) t .next .reader) items (step (call input) t .outcome) e ∙ ap (λ (u : State). foot input (u .reader) items) stays)
 
-sheet-is : (isCrate : Bool) (commands memory sizes : List ℕ) → tooLong (length commands) sizes ≡ false → goodPopulation memory (length sizes) (placesOf sizes) ≡ true
+pub sheet-is : (isCrate : Bool) (commands memory sizes : List ℕ) → tooLong (length commands) sizes ≡ false → goodPopulation memory (length sizes) (placesOf sizes) ≡ true
     → sheetOf isCrate commands memory sizes ≡ headOf isCrate commands sizes ++ textFrom (teller commands) false (begunOn memory sizes)
 unfolding sheetOf
 sheet-is isCrate commands memory sizes short h = simp (short, h, pick-true, pick-false)
@@ -108,7 +99,7 @@ good-crate-sheet isCrate commands memory sizes short h =
     let s : State = fresh memory sizes in
     let b = bound commands s (omega (arith, few-bytes commands memory sizes short)) refl refl h (omega arith) (none-waits memory sizes) in
     let k : ℕ = b .0 in
-    let there = bench-is commands k (begunOn memory sizes) in
+    let there = bench-after k commands (begunOn memory sizes) in
     let on = goes-by commands k s (b .2) (ends-by (step (call commands) (after (replicate k (call commands)) s)) (b .3)) in
     let few : k < 18446744073709551615 = omega (arith, few-calls commands k s on, work-at-start commands memory sizes, few-bytes commands memory sizes short) in (
       k,
@@ -124,12 +115,12 @@ refused-eleven : refusedLine 11 ≡ ascii "REFUSED 11" ++ (10 ∷ [])
 unfolding refusedLine countPart refusedWord decimal digits width widthBy pick
 refused-eleven = refl
 
-bad-crate : (isCrate : Bool) (commands memory sizes : List ℕ) → tooLong (length commands) sizes ≡ false → goodPopulation memory (length sizes) (placesOf sizes) ≡ false
+pub bad-crate : (isCrate : Bool) (commands memory sizes : List ℕ) → tooLong (length commands) sizes ≡ false → goodPopulation memory (length sizes) (placesOf sizes) ≡ false
     → sheetOf isCrate commands memory sizes ≡ refusedLine 11
 unfolding sheetOf
 bad-crate isCrate commands memory sizes short bad = simp (short, bad, pick-false)
 
-too-long : (isCrate : Bool) (commands memory sizes : List ℕ) → tooLong (length commands) sizes ≡ true → sheetOf isCrate commands memory sizes ≡ tooLongLine
+pub too-long : (isCrate : Bool) (commands memory sizes : List ℕ) → tooLong (length commands) sizes ≡ true → sheetOf isCrate commands memory sizes ≡ tooLongLine
 unfolding sheetOf
 too-long isCrate commands memory sizes long = simp (long, pick-true)
 
@@ -139,16 +130,3 @@ no-sheet isCrate commands memory sizes = (
   pick-false (sheetOf isCrate commands memory sizes) unreadableLine,
   (too-long isCrate commands memory sizes, λ short bad. bad-crate isCrate commands memory sizes short bad ∙ refused-eleven),
 )
-
-pub piece-by-piece : PieceByPiece
-piece-by-piece input room over s = splits (teller input) (falls input) 1024 room over s
-
-pub pieces-are-the-text : PiecesAreTheText
-pieces-are-the-text input rooms s ended = whole (teller input) (falls input) 1024 rooms s ended
-
-all-work : (input : List ℕ) (s : Standing) → left (teller input) false s ≡ suc (work input (s .bench))
-unfolding teller
-all-work input s = left-is (teller input) (falls input) s
-
-pub enough-pieces : EnoughPieces
-enough-pieces input room s h = enough (teller input) (falls input) 1024 (suc (work input (s .bench))) room false s h (omega (arith, all-work input s))

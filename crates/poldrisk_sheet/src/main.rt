@@ -1,30 +1,14 @@
 // The program for the sheet: reads commands.bin and the tags' files from the folder that it is run in, and prints the sheet that is signed.
 use console::places::places_of;
-use console::print_notice;
 use files::read_file;
 use files::tags::read_tags;
-use head::writing::write_head;
 use libc::STDOUT_FILENO;
+use page::beginning::begin;
 use population::places::Place;
-use population::places::is_good_population;
-use report::limits::Files;
-use report::limits::judge;
 use sheet::telling::Progress;
 use sheet::telling::write;
-use text::counts::put_refused;
 ghost use Prim.Native.Nat.{_≤_};
 ghost use lib.ListN.{length};
-
-// The only line where an image is bad: the head would tell of a run that was not made.
-fn print_refused(buffer: &mut [u8]) -> bool {
-    let used = put_refused(buffer, 0, 11);
-    io::write_all(STDOUT_FILENO, &buffer[..used])
-}
-
-fn print_head(numbered: bool, commands: &[u8], sizes: &[u64], buffer: &mut [u8]) -> bool {
-    let used = write_head(numbered, commands, sizes, buffer);
-    io::write_all(STDOUT_FILENO, &buffer[..used])
-}
 
 // Piece by piece. Where standard output refuses some of the sheet nothing more is written, so that no sheet ends with its last line and lacks a row.
 fn print_rows(
@@ -59,27 +43,7 @@ fn print_rows(
     true
 }
 
-// The sheet of files that are neither unreadable nor too long.
-fn print_run(
-    numbered: bool,
-    commands: &[u8],
-    memory: &mut [u8],
-    sizes: &[u64],
-    buffer: &mut [u8],
-) -> bool
-    requires { ⌜ 1024 ≤ length (now buffer) ⌝ }
-{
-    let places = places_of(sizes);
-    if !is_good_population(memory, sizes.len(), places) {
-        return print_refused(buffer);
-    }
-    if !print_head(numbered, commands, sizes, buffer) {
-        return false;
-    }
-    let mut output = [0u8; 136];
-    print_rows(commands, memory, &mut output, buffer, places, sizes.len())
-}
-
+// The page of these files: what it begins with, and where there is a sheet its rows and its foot.
 fn print(
     numbered: bool,
     readable: bool,
@@ -88,12 +52,32 @@ fn print(
     sizes: &[u64],
 ) -> bool {
     let mut buffer = io::large_buffer();
-    let files = judge(readable, commands.len(), sizes);
-    match files {
-        Files::Unreadable => print_notice(files, &mut buffer),
-        Files::TooLong => print_notice(files, &mut buffer),
-        Files::Fit => print_run(numbered, commands, memory, sizes, &mut buffer),
+    let places = places_of(sizes);
+    let begun = begin(
+        numbered,
+        readable,
+        commands,
+        memory,
+        sizes,
+        places,
+        &mut buffer,
+    );
+    let used = begun.used;
+    if !io::write_all(STDOUT_FILENO, &buffer[..used]) {
+        return false;
     }
+    if !begun.rows {
+        return true;
+    }
+    let mut output = [0u8; 136];
+    print_rows(
+        commands,
+        memory,
+        &mut output,
+        &mut buffer,
+        places,
+        sizes.len(),
+    )
 }
 
 // One tag in tag.img, or else a crate. Where no file of a tag can be opened it is one tag, and its file counts as empty. Each buffer has room for more

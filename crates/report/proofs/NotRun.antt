@@ -13,13 +13,13 @@ use Rattle.frame.proofs.Picks.{pick-true, pick-false}
 use Rattle.frame.proofs.Tests.{holds, fails, either, or-neither}
 use Rattle.frame.specs.Bytes.{pick}
 use Rattle.frame.specs.Frames.{written}
-use Rattle.report.proofs.Pieces.{put-first}
 use Rattle.report.specs.Claims.{LongFiles, UnreadableReport, NoticeAlone, RunPrinted}
 use Rattle.report.specs.Lines.{tooLongLine, unreadableLine}
 use Rattle.report.specs.Report.{reportFrom, anyLong, tooLong, fresh, reportOf, filesOf, noticeOf, printed}
 use Rattle.report.specs.Writing.{Told}
 use Rattle.report.specs.declared.limits.Files.{Files}
 use Rattle.report.specs.declared.limits.Files.the-variants.{Unreadable, TooLong, Fit}
+use Rattle.text.proofs.Written.{put-first}
 use Rattle.text.proofs.Laying.{laid-put, laid-none}
 use Rattle.text.specs.Laying.{Laid}
 

@@ -26,15 +26,7 @@ use Rattle.report.specs.declared.writing.Room.{Room}
 use Rattle.report.specs.declared.writing.Room.the-variants.{Enough, TooShort}
 use Rattle.report.specs.declared.writing.Written.{Written}
 use Rattle.text.proofs.Puts.{put-join}
-
--- what was put at the start of the buffer is written there
-pub put-first : (bytes before new : List ℕ) (used : ℕ) → Put bytes 0 before new used → length bytes ≤ length before
-    → (used ≡ length bytes) × (new ≡ written bytes before)
-unfolding written
-put-first bytes before new used put room = (
-  omega (arith, put .next-is),
-  put .output-is ∙ sets-eq bytes before 0 (omega arith) ∙ ap (λ (n : ℕ). bytes ++ drop n before) (zero-add (length bytes)),
-)
+use Rattle.text.proofs.Written.{put-first}
 
 -- one call more
 one-more : (c : Call) (k : ℕ) (s : State) → step c (after (replicate k c) s) .next ≡ after (replicate (suc k) c) s

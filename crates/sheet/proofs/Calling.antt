@@ -1,5 +1,5 @@
 -- What a call means for the items, beside what it does to the counts and to the cursor.
-use Prim.Native.Nat.{ℕ, _+_, _≤_}
+use Prim.Native.Nat.{ℕ, _+_, _≤_, _<_}
 use borrow.Author.Tests.{eqb-true, eqb-false, ne-eqb}
 use lib.Dec.{eqb}
 use mathlib.Core.Bool.{Bool, true, false, _&&_}
@@ -7,7 +7,7 @@ use mathlib.Core.List.{List, [], _∷_}
 use mathlib.Core.Logic.{_≢_}
 use mathlib.Core.Path.{_≡_, refl, ap, sym, _∙_}
 use native.Mathlib.Omega.{arith}
-use Rattle.machine.proofs.Claimed.{history, hand-out, answer-is-one-frame, nothing-changes, drop-takes-one-byte}
+use Rattle.machine.proofs.Claimed.{history, hand-out, answer-is-one-frame, nothing-changes, drop-takes-one-byte, errors-have-a-byte}
 use Rattle.machine.proofs.Steps.{step-cases}
 use Rattle.machine.specs.Claims.{count, isError, isDropped}
 use Rattle.machine.specs.Machine.{State, call, Step, unchanged, step, run, after, waiting}
@@ -42,10 +42,17 @@ least Passed = 0
 least (Error e) = 7
 least (Drop q) = 1
 
+-- the byte of an error answer is not 0, by which drops are told
+unfoldable pub HasByte : Failing → Type 0
+HasByte Passed = Unit
+HasByte (Error e) = 0 < e
+HasByte (Drop q) = Unit
+
 pub record Called (s : State) (x : Step) (f : Failing) : Type 0 where
   pub counts : (r : Reason) → reasonCount r (x .next .reader .tally) ≡ reasonCount r (s .reader .tally) + adds r f
   pub below : (r : Reason) → reasonCount r (s .reader .tally) ≤ limit → reasonCount r (s .reader .tally) + adds r f ≤ limit
   pub moves : s .reader .cursor + least f ≤ x .next .reader .cursor
+  pub has-byte : HasByte f
 
 -- ---- the counts
 
@@ -134,17 +141,22 @@ error-is x e error = rw (e, error)
 
 module _ (input : List ℕ) (s : State) where
   answered-call : step (call input) s .outcome ≡ Answered → Called s (step (call input) s) (failing (step (call input) s .next .output) Answered)
-  unfolding failing adds least numberOf
+  unfolding failing adds least HasByte numberOf
   answered-call e =
       let x : Step = step (call input) s in
       let moves = answer-moves input s (ap numberOf e) (waiting s) refl in
       by-test (Called s x) (eqb (byte (x .next .output) 2) 0xFF)
       (λ error.
-      record { counts = λ r. no-drop input s Answered r e (omega arith); below = λ r less. omega arith; moves = omega (arith, moves, picked (isError x) 7 (error-is x e error)) })
-      (λ good. record { counts = λ r. no-drop input s Answered r e (omega arith); below = λ r less. omega arith; moves = omega (arith, moves) })
+      record {
+        counts = λ r. no-drop input s Answered r e (omega arith);
+        below = λ r less. omega arith;
+        moves = omega (arith, moves, picked (isError x) 7 (error-is x e error));
+        has-byte = errors-have-a-byte (call input) s (ap numberOf e) (eqb-true (byte (x .next .output) 2) 0xFF error);
+      })
+      (λ good. record { counts = λ r. no-drop input s Answered r e (omega arith); below = λ r less. omega arith; moves = omega (arith, moves); has-byte = tt })
 
   dropped-call : (q : Reason) → step (call input) s .outcome ≡ Dropped q → Called s (step (call input) s) (Drop q)
-  unfolding adds least numberOf reasonOf
+  unfolding adds least HasByte numberOf reasonOf
   dropped-call q e =
       record {
         counts = λ r. counts-as input s (Dropped q) r e;
@@ -152,16 +164,18 @@ module _ (input : List ℕ) (s : State) where
             one-more (reasonCount r (s .reader .tally)) (eqb (reasonNumber q) (reasonNumber r)) less
             (reason-below r (s .reader .tally) (not-full-there input s (ap numberOf e)));
         moves = omega (arith, ap (λ (t : State). t .reader .cursor) (drop-takes-one-byte (call input) s (ap numberOf e) .1));
+        has-byte = tt;
       }
 
   still-call : (o : Outcome) → step (call input) s .outcome ≡ o → numberOf o ≢ 0 → numberOf o ≢ 3 → Called s (step (call input) s) Passed
-  unfolding adds least
+  unfolding adds least HasByte
   still-call o e not0 not3 =
       let still = nothing-changes (call input) s (λ h. not0 (sym (ap numberOf e) ∙ h)) (λ h. not3 (sym (ap numberOf e) ∙ h)) .0 in
       record {
         counts = λ r. no-drop input s o r e not3;
         below = λ r less. omega arith;
         moves = omega (arith, ap (λ (t : State). t .reader .cursor) still);
+        has-byte = tt;
       }
 
   called-as : (o : Outcome) → step (call input) s .outcome ≡ o → Called s (step (call input) s) (failing (step (call input) s .next .output) o)

@@ -1,14 +1,18 @@
 -- Every claim of specs/Claims.antt holds.
+use Prim.Native.Nat.{ℕ}
+use mathlib.Core.List.{List}
 use Rattle.sheet.proofs.Balancing as Balancing
 use Rattle.sheet.proofs.Itemising as Itemising
+use Rattle.sheet.proofs.LinesOfFoot as LinesOfFoot
 use Rattle.sheet.proofs.Measuring as Measuring
 use Rattle.sheet.proofs.Numbered as Numbered
 use Rattle.sheet.proofs.Ordering as Ordering
-use Rattle.sheet.proofs.Sampled as Sampled
+use Rattle.sheet.proofs.Pieces as Pieces
 use Rattle.sheet.proofs.Secrets as Secrets
-use Rattle.sheet.proofs.Sheets as Sheets
+use Rattle.sheet.proofs.Shown as Shown
 use Rattle.sheet.proofs.Summing as Summing
-use Rattle.sheet.specs.Claims.{EveryFailureOnce, RowForEachItem, ItemsCounted, BalanceHolds, ReasonsSummed, BytesOfDrops, Rising, SameSheet, GoodCrateSheet, NoSheet, PieceByPiece, PiecesAreTheText, EnoughPieces, FootLines, WhatWaits, SampleSheet}
+use Rattle.sheet.proofs.Together as Together
+use Rattle.sheet.specs.Claims.{EveryFailureOnce, RowForEachItem, ItemsCounted, BalanceHolds, ReasonsSummed, BytesOfDrops, Rising, DropsTogether, CommandsShown, SameSheet, PieceByPiece, PiecesAreTheText, EnoughPieces, FootLines, WhatWaits}
 
 -- ---- the items
 
@@ -33,33 +37,32 @@ bytes-of-drops = Measuring.bytes-of-drops
 pub rising : Rising
 rising = Ordering.rising
 
+pub drops-together : DropsTogether
+drops-together = Together.drops-together
+
+-- ---- the commands, and the passwords
+
+pub commands-shown : (before behind : List ℕ) (p q r s d e : ℕ) → CommandsShown before behind p q r s d e
+commands-shown = Shown.commands-shown
+
 pub same-sheet : SameSheet
 same-sheet = Secrets.same-sheet
 
--- ---- the whole sheet, and its pieces
-
-pub good-crate-sheet : GoodCrateSheet
-good-crate-sheet = Sheets.good-crate-sheet
-
-pub no-sheet : NoSheet
-no-sheet = Sheets.no-sheet
+-- ---- its pieces
 
 pub piece-by-piece : PieceByPiece
-piece-by-piece = Sheets.piece-by-piece
+piece-by-piece = Pieces.piece-by-piece
 
 pub pieces-are-the-text : PiecesAreTheText
-pieces-are-the-text = Sheets.pieces-are-the-text
+pieces-are-the-text = Pieces.pieces-are-the-text
 
 pub enough-pieces : EnoughPieces
-enough-pieces = Sheets.enough-pieces
+enough-pieces = Pieces.enough-pieces
 
--- ---- the foot, and a sheet as literal text
+-- ---- the foot
 
 pub foot-lines : FootLines
-foot-lines = Sampled.foot-lines
+foot-lines = LinesOfFoot.foot-lines
 
 pub what-waits : WhatWaits
-what-waits = Sampled.what-waits
-
-pub sample-sheet : SampleSheet
-sample-sheet = Sampled.sample-sheet
+what-waits = LinesOfFoot.what-waits

@@ -1,29 +1,23 @@
--- The claims page of the sheet: its items, its rows and its foot. Each statement is proved in proofs/Claimed.antt.
+-- The claims page of the sheet behind its head: its items, its rows and its foot. Each statement is proved in proofs/Claimed.antt.
 use Prim.Native.Nat.{ℕ, zero, suc, _+_, _-_, _*_, _/_, _%_, _≤_, _<_}
 use mathlib.Core.Bool.{Bool, true, false}
 use mathlib.Core.List.{List, [], _∷_, _++_}
 use mathlib.Core.Logic.{_⊎_}
 use mathlib.Core.Path.{_≡_}
 use lib.ListN.{length, drop, replicate}
-use Rattle.machine.specs.Claims.{inventories, Premises, withMemory}
-use Rattle.machine.specs.Machine.{State, call, step, work}
-use Rattle.machine.specs.Secrecy.{accepted}
+use Rattle.machine.specs.Claims.{Premises, withMemory}
+use Rattle.machine.specs.Machine.{State, call, step, work, codeAt}
 use Rattle.frame.specs.declared.finding.Reason.{Reason}
 use Rattle.frame.specs.declared.finding.Reason.the-variants.{NoHeader, WrongType, TooLong, WrongCheck, WrongEnd}
-use Rattle.effects.specs.Sample.{sample}
-use Rattle.population.specs.Places.{goodPopulation}
 use Rattle.reader.specs.Tallies.{freshTally}
 use Rattle.reader.specs.declared.state.Reader.{Reader}
 use Rattle.reader.specs.declared.tally.Tally.{Tally}
-use Rattle.report.specs.Claims.{sampleCommands}
+use Rattle.naming.specs.Commands.{commandText}
 use Rattle.report.specs.Lines.{ends}
-use Rattle.report.specs.Report.{tooLong, placesOf, fresh}
 use Rattle.rows.specs.Rows.{droppedIn, waitingRow}
 use Rattle.rows.specs.declared.items.Item.{Item}
-use Rattle.head.specs.Commands.{commandsIn}
-use Rattle.head.specs.Head.{headOf}
 use Rattle.sheet.specs.Itemised.{advanced, itemised, rowsFrom, faults, allFaults}
-use Rattle.sheet.specs.Sheet.{Standing, standingOf, waitingRows, foot, endFor, teller, begunOn, sheetOf, printedSheet}
+use Rattle.sheet.specs.Sheet.{Standing, standingOf, commandAt, waitingRows, foot, endFor, teller, begunOn}
 use Rattle.sheet.specs.declared.items.Items.{Items}
 use Rattle.text.specs.Counts.{countsLine}
 use Rattle.text.specs.Digits.{decimal}
@@ -111,6 +105,51 @@ inOrder from (item ∷ items) = (from ≤ item .first) × ((item .first ≤ item
 abbrev pub Rising : Type 0
 Rising = (k : ℕ) (input : List ℕ) (s : Standing) → s .items .count ≡ 0 → inOrder (s .bench .reader .cursor) (itemised k input s)
 
+-- two items of dropped bytes, of which the second does not begin with the byte behind the first
+abbrev pub Apart : Item → Item → Type 0
+Apart item next = item .error ≡ 0 → next .error ≡ 0 → item .last + 1 < next .first
+
+-- each item and the one behind it
+unfoldable pub apartFrom : Item → List Item → Type 0
+apartFrom item [] = Unit
+apartFrom item (next ∷ items) = Apart item next × apartFrom next items
+
+unfoldable pub allApart : List Item → Type 0
+allApart [] = Unit
+allApart (item ∷ items) = apartFrom item items
+
+-- "Drops that follow one another, with no command between them, are one item", and not two
+abbrev pub DropsTogether : Type 0
+DropsTogether = (k : ℕ) (input : List ℕ) (s : Standing) → s .items .count ≡ 0 → allApart (itemised k input s)
+
+-- ---- the commands
+
+-- what the row of an error answer shows of the command that begins at `at`
+abbrev pub shownAt : List ℕ → ℕ → List ℕ
+shownAt input at = commandText (codeAt input at) (commandAt input at)
+
+-- "The command is decoded from the input at the record's cursor: code, name, bank, pointer and count of a Read or Write, mask and action of a Lock": here with the
+-- bytes of each frame, whatever stands before it and behind its parameters. "Never a password, data ..": p, q, r and s are those of a password, d and e data.
+pub record CommandsShown (before behind : List ℕ) (p q r s d e : ℕ) : Type 0 where
+  pub inventory : shownAt (before ++ 0xBB ∷ 0x00 ∷ 0x22 ∷ 0x00 ∷ 0x00 ∷ behind) (length before) ≡ ascii "22 Inventory"
+  pub read : shownAt (before ++ 0xBB ∷ 0x00 ∷ 0x39 ∷ 0x00 ∷ 0x09 ∷ p ∷ q ∷ r ∷ s ∷ 0x03 ∷ 0x01 ∷ 0x07 ∷ 0x00 ∷ 0x02 ∷ behind) (length before) ≡ ascii "39 Read User 263+2"
+  pub write : shownAt (before ++ 0xBB ∷ 0x00 ∷ 0x49 ∷ 0x00 ∷ 0x0B ∷ p ∷ q ∷ r ∷ s ∷ 0x01 ∷ 0x00 ∷ 0x05 ∷ 0x00 ∷ 0x01 ∷ d ∷ e ∷ behind) (length before)
+      ≡ ascii "49 Write EPC 5+1"
+  -- LD 080C80: its bits 19 to 10 are 203, 9 to 0 are 080
+  pub lock : shownAt (before ++ 0xBB ∷ 0x00 ∷ 0x82 ∷ 0x00 ∷ 0x07 ∷ p ∷ q ∷ r ∷ s ∷ 0x08 ∷ 0x0C ∷ 0x80 ∷ behind) (length before) ≡ ascii "82 Lock mask 0203 action 0080"
+  pub kill : shownAt (before ++ 0xBB ∷ 0x00 ∷ 0x65 ∷ 0x00 ∷ 0x04 ∷ p ∷ q ∷ r ∷ s ∷ behind) (length before) ≡ ascii "65 Kill"
+  -- "A malformed command shows its code and no fields.": a code that is not listed, a Read with a byte too few, with bank 4 and with count 0, a Write with half a
+  -- word, a Lock whose top bits are not 0, a Kill with half a password, an inventory with a parameter, a Set Select
+  pub not-listed : shownAt (before ++ 0xBB ∷ 0x00 ∷ 0x77 ∷ 0x00 ∷ 0x00 ∷ behind) (length before) ≡ ascii "77"
+  pub short-read : shownAt (before ++ 0xBB ∷ 0x00 ∷ 0x39 ∷ 0x00 ∷ 0x08 ∷ p ∷ q ∷ r ∷ s ∷ 0x03 ∷ 0x01 ∷ 0x07 ∷ 0x00 ∷ behind) (length before) ≡ ascii "39"
+  pub bank-four : shownAt (before ++ 0xBB ∷ 0x00 ∷ 0x39 ∷ 0x00 ∷ 0x09 ∷ p ∷ q ∷ r ∷ s ∷ 0x04 ∷ 0x01 ∷ 0x07 ∷ 0x00 ∷ 0x02 ∷ behind) (length before) ≡ ascii "39"
+  pub count-zero : shownAt (before ++ 0xBB ∷ 0x00 ∷ 0x39 ∷ 0x00 ∷ 0x09 ∷ p ∷ q ∷ r ∷ s ∷ 0x03 ∷ 0x01 ∷ 0x07 ∷ 0x00 ∷ 0x00 ∷ behind) (length before) ≡ ascii "39"
+  pub half-a-word : shownAt (before ++ 0xBB ∷ 0x00 ∷ 0x49 ∷ 0x00 ∷ 0x0A ∷ p ∷ q ∷ r ∷ s ∷ 0x01 ∷ 0x00 ∷ 0x05 ∷ 0x00 ∷ 0x01 ∷ d ∷ behind) (length before) ≡ ascii "49"
+  pub top-bits : shownAt (before ++ 0xBB ∷ 0x00 ∷ 0x82 ∷ 0x00 ∷ 0x07 ∷ p ∷ q ∷ r ∷ s ∷ 0x18 ∷ 0x0C ∷ 0x80 ∷ behind) (length before) ≡ ascii "82"
+  pub half-a-password : shownAt (before ++ 0xBB ∷ 0x00 ∷ 0x65 ∷ 0x00 ∷ 0x02 ∷ p ∷ q ∷ behind) (length before) ≡ ascii "65"
+  pub one-parameter : shownAt (before ++ 0xBB ∷ 0x00 ∷ 0x22 ∷ 0x00 ∷ 0x01 ∷ d ∷ behind) (length before) ≡ ascii "22"
+  pub set-select : shownAt (before ++ 0xBB ∷ 0x00 ∷ 0x0C ∷ 0x00 ∷ 0x02 ∷ d ∷ e ∷ behind) (length before) ≡ ascii "0C"
+
 -- ---- the passwords
 
 -- "the sheet of two runs under demand 3's premises is the same text": of the run from s, which goes on for k calls and is ended by the next one, and of the run that
@@ -122,32 +161,7 @@ SameSheet =
     → goesOn k input s
     → textFrom (teller input) false (standingOf s items) ≡ textFrom (teller input) false (standingOf (withMemory s n) items)
 
--- ---- the whole sheet, and its pieces
-
--- On a good crate it is the head, a row for each item of the run, numbered from 1, and the foot, whose last line is `END OF SHEET`: k calls take something, and
--- the next one is answered 1 or 2. The head's "9 commands taken" is the number of commands that these calls accept.
-abbrev pub GoodCrateSheet : Type 0
-GoodCrateSheet =
-    (isCrate : Bool) (commands memory sizes : List ℕ)
-    → tooLong (length commands) sizes ≡ false
-    → goodPopulation memory (length sizes) (placesOf sizes) ≡ true
-    → (k : ℕ)
-    × (k ≤ length commands + 15 * inventories (accepted (replicate k (call commands)) (fresh memory sizes)))
-    × goesOn k commands (fresh memory sizes)
-    × (commandsIn commands ≡ length (accepted (replicate k (call commands)) (fresh memory sizes)))
-    × (sheetOf isCrate commands memory sizes
-    ≡ headOf isCrate commands sizes
-    ++ (rowsFrom 1 commands (itemised k commands (begunOn memory sizes))
-    ++ foot commands (advanced k commands (begunOn memory sizes) .bench .reader) (advanced k commands (begunOn memory sizes) .items)))
-
--- "`REFUSED n`, `TOO LONG`, `UNREADABLE`: that one line"
-abbrev pub NoSheet : Type 0
-NoSheet =
-    (isCrate : Bool) (commands memory sizes : List ℕ)
-    → (printedSheet false isCrate commands memory sizes ≡ ascii "UNREADABLE" ++ (10 ∷ []))
-    × ((tooLong (length commands) sizes ≡ true → sheetOf isCrate commands memory sizes ≡ ascii "TOO LONG" ++ (10 ∷ []))
-    × (tooLong (length commands) sizes ≡ false → goodPopulation memory (length sizes) (placesOf sizes) ≡ false
-    → sheetOf isCrate commands memory sizes ≡ ascii "REFUSED 11" ++ (10 ∷ [])))
+-- ---- its pieces
 
 -- The bytes of a piece, followed by the text from where it left off, are the text from where it began; pieces one behind the other are the text once it is over,
 -- and it comes to that.
@@ -168,7 +182,7 @@ abbrev pub EnoughPieces : Type 0
 EnoughPieces =
     (input : List ℕ) (room : ℕ) (s : Standing) → 1024 ≤ room → pieces (teller input) 1024 (replicate (suc (work input (s .bench))) room) false s .over ≡ true
 
--- ---- the foot, and a sheet as literal text
+-- ---- the foot
 
 -- what waits, a blank line, the counts of the report, the balance, a line for the names and the last line
 abbrev pub FootLines : Type 0
@@ -195,20 +209,3 @@ pub record WaitingRows (cursor size : ℕ) : Type 0 where
 
 abbrev pub WhatWaits : Type 0
 WhatWaits = (cursor size : ℕ) → WaitingRows cursor size
-
--- the sheet of document 01's sample: a byte that is dropped, and a Kill that is answered well
-abbrev pub SampleSheet : Type 0
-SampleSheet =
-    sheetOf false sampleCommands sample (86 ∷ [])
-    ≡ (ascii "POLDRISK FAILURE SHEET" ++ (10 ∷ []))
-    ++ (ascii "commands.bin      12 bytes, 1 command taken" ++ (10 ∷ []))
-    ++ (ascii "tag.img           86 bytes" ++ (10 ∷ []))
-    ++ ((10 ∷ []))
-    ++ (ascii "ITEM   BYTE         COMMAND                       RESULT                                MEANT FAULT" ++ (10 ∷ []))
-    ++ (ascii "   1   0            1 byte dropped                1 no header                             [ ]   [ ]" ++ (10 ∷ []))
-    ++ ((10 ∷ []))
-    ++ (ascii "GOOD 1 ERROR 0 DROPPED 1 0 0 0 0 LEFT 0" ++ (10 ∷ []))
-    ++ (ascii "FAILURES 1 = ERROR 0 + DROPPED 1, ITEMS 1" ++ (10 ∷ []))
-    ++ ((10 ∷ []))
-    ++ (ascii "Line builder ______________________   Inspector ______________________   Date ____________" ++ (10 ∷ []))
-    ++ (ascii "END OF SHEET" ++ (10 ∷ []))

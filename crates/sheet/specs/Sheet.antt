@@ -1,4 +1,4 @@
--- The sheet: a head with the files, a row for each item of the run, and a foot with the counts and the lines for the names.
+-- The sheet behind its head: a row for each item of the run, and a foot with the counts and the lines for the names.
 use Prim.Native.Nat.{ℕ, _+_, _-_}
 use mathlib.Core.Bool.{Bool, false, _||_}
 use mathlib.Core.List.{List, [], _∷_, _++_}
@@ -6,22 +6,20 @@ use lib.Dec.{eqb, leb}
 use lib.ListN.{length, drop}
 use Rattle.machine.specs.Machine.{State, call, Step, step, work, codeAt, parametersAt}
 use Rattle.frame.specs.Bytes.{pick, number}
-use Rattle.population.specs.Places.{goodPopulation}
 use Rattle.reader.specs.Outcomes.{numberOf}
 use Rattle.reader.specs.declared.outcome.Outcome.{Outcome}
 use Rattle.reader.specs.declared.outcome.Outcome.the-variants.{Answered, AtEnd, Incomplete, Dropped, PastEnd, BadImage, ShortOutput, FullTally, FullList}
 use Rattle.reader.specs.declared.state.Reader.{Reader}
 use Rattle.reader.specs.declared.tally.Tally.{Tally}
-use Rattle.report.specs.Lines.{tooLongLine, unreadableLine, ends}
-use Rattle.report.specs.Report.{tooLong, placesOf, fresh}
+use Rattle.report.specs.Lines.{ends}
+use Rattle.report.specs.Report.{fresh}
 use Rattle.rows.specs.Rows.{droppedIn, itemRows, waitingRow}
-use Rattle.head.specs.Head.{headOf}
 use Rattle.sheet.specs.Items.{noItems, failing, itemsAfter, closes}
 use Rattle.sheet.specs.declared.items.Items.{Items}
 use Rattle.tag.specs.Commands.{parse}
 use Rattle.tag.specs.declared.commands.Parsed.{Parsed}
 use Rattle.text.specs.Counts.{countPart, countsLine, refusedLine}
-use Rattle.text.specs.Telling.{Teller, textFrom}
+use Rattle.text.specs.Telling.{Teller}
 use Rattle.text.specs.Words.{ascii}
 
 -- where the sheet stands: the bench, and the items so far
@@ -108,18 +106,7 @@ teller input =
       work = λ s. work input (s .bench);
     }
 
--- ---- the whole sheet
+-- ---- where the program begins
 
--- where the program begins
 abbrev pub begunOn : List ℕ → List ℕ → Standing
 begunOn memory sizes = standingOf (fresh memory sizes) noItems
-
--- a bad crate gives only `REFUSED` and the number, a file that is too long only `TOO LONG`: neither is a sheet
-unfoldable pub sheetOf : Bool → List ℕ → List ℕ → List ℕ → List ℕ
-sheetOf isCrate input memory sizes =
-    pick (tooLong (length input) sizes) tooLongLine
-    (pick (goodPopulation memory (length sizes) (placesOf sizes)) (headOf isCrate input sizes ++ textFrom (teller input) false (begunOn memory sizes)) (refusedLine 11))
-
--- a file that opens and can't be read to its end is told first
-unfoldable pub printedSheet : Bool → Bool → List ℕ → List ℕ → List ℕ → List ℕ
-printedSheet readable isCrate input memory sizes = pick readable (sheetOf isCrate input memory sizes) unreadableLine

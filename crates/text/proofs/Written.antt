@@ -14,7 +14,7 @@ use Rattle.text.proofs.Told.{fill-over, fill-short, fill-more}
 use Rattle.text.specs.Telling.{Teller, Piece, nothing, behind, fill, Wrote}
 
 -- what was put at the start of the buffer is written there
-put-first : (bytes before new : List ℕ) (used : ℕ) → Put bytes 0 before new used → length bytes ≤ length before
+pub put-first : (bytes before new : List ℕ) (used : ℕ) → Put bytes 0 before new used → length bytes ≤ length before
     → (used ≡ length bytes) × (new ≡ written bytes before)
 unfolding written
 put-first bytes before new used put room = (

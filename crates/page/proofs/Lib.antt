@@ -1,0 +1,7 @@
+pub mod Accepting
+pub mod Beginnings
+pub mod Claimed
+pub mod Computed
+pub mod Pages
+pub mod Sampled
+pub mod Sheets
