@@ -30,7 +30,8 @@ use Rattle.page.specs.Page.{sheetOf, printedSheet}
 use Rattle.sheet.specs.Claims.{goesOn}
 use Rattle.head.specs.Head.{headOf}
 use Rattle.sheet.specs.Itemised.{advanced, itemised, rowsFrom}
-use Rattle.sheet.specs.Sheet.{Standing, foot, endFor, teller, begunOn}
+use Rattle.foot.specs.Foot.{foot, endFor}
+use Rattle.sheet.specs.Sheet.{Standing, teller, begunOn}
 use Rattle.sheet.specs.declared.items.Items.{Items}
 use Rattle.text.specs.Counts.{refusedWord, countPart, refusedLine}
 use Rattle.text.specs.Digits.{widthBy, width, digits, decimal}
@@ -54,7 +55,7 @@ module _ (input : List ℕ) where
       (ends-is (step (call input) s) (step (call input) s .outcome) refl ∙ ap not (t .first), goes-by k (step (call input) s .next) (t .rest) last)
 
   -- the call that is answered 1 or 2 ends the sheet with the foot
-  foot-is : (reader : Reader) (items : Items) (o : Outcome) → (numberOf o ≡ 1) ⊎ (numberOf o ≡ 2) → endFor input reader items o ≡ foot input reader items
+  foot-is : (reader : Reader) (items : ℕ) (o : Outcome) → (numberOf o ≡ 1) ⊎ (numberOf o ≡ 2) → endFor input reader items o ≡ foot input reader items
   unfolding numberOf endFor
   foot-is reader items Answered e = absurd (neither 0 (λ h. omega arith) (λ h. omega arith) e)
   foot-is reader items AtEnd e = refl
@@ -78,10 +79,10 @@ module _ (input : List ℕ) where
   -- a run that is answered 1 or 2 in the end is its rows and the foot
   ended-sheet : (k : ℕ) (s : Standing) → s .items .count ≡ 0 → k < 18446744073709551615 → goesOn k input (s .bench)
       → (answerOf (call input) (advanced k input s .bench) ≡ 1) ⊎ (answerOf (call input) (advanced k input s .bench) ≡ 2)
-      → textFrom (teller input) false s ≡ rowsFrom 1 input (itemised k input s) ++ foot input (advanced k input s .bench .reader) (advanced k input s .items)
+      → textFrom (teller input) false s ≡ rowsFrom 1 input (itemised k input s) ++ foot input (advanced k input s .bench .reader) (advanced k input s .items .count)
   ended-sheet k s none less on e =
       let t : State = advanced k input s .bench in
-      let items : Items = advanced k input s .items in
+      let items : ℕ = advanced k input s .items .count in
       let stays = nothing-changes (call input) t (not-taken (answerOf (call input) t) 0 e (λ h. omega arith) (λ h. omega arith))
       (not-taken (answerOf (call input) t) 3 e (λ h. omega arith) (λ h. omega arith)) .0 in
       row-for-each-item k input s none less on

@@ -6,6 +6,7 @@ use mathlib.Core.List.{List, [], _∷_, _++_}
 use mathlib.Core.Path.{_≡_}
 use lib.ListN.{length, replicate}
 use Rattle.effects.specs.Sample.{sample}
+use Rattle.foot.specs.Foot.{foot}
 use Rattle.frame.specs.Bytes.{pick}
 use Rattle.head.specs.Commands.{commandsIn}
 use Rattle.head.specs.Head.{headOf}
@@ -19,7 +20,7 @@ use Rattle.report.specs.Claims.{sampleCommands}
 use Rattle.report.specs.Report.{anyLong, tooLong, placesOf, fresh}
 use Rattle.sheet.specs.Claims.{goesOn}
 use Rattle.sheet.specs.Itemised.{advanced, itemised, rowsFrom}
-use Rattle.sheet.specs.Sheet.{foot, teller, begunOn}
+use Rattle.sheet.specs.Sheet.{teller, begunOn}
 use Rattle.text.specs.Telling.{pieces}
 use Rattle.text.specs.Words.{ascii}
 
@@ -39,7 +40,7 @@ GoodCrateSheet =
     × (sheetOf isCrate commands memory sizes
     ≡ headOf isCrate commands sizes
     ++ (rowsFrom 1 commands (itemised k commands (begunOn memory sizes))
-    ++ foot commands (advanced k commands (begunOn memory sizes) .bench .reader) (advanced k commands (begunOn memory sizes) .items)))
+    ++ foot commands (advanced k commands (begunOn memory sizes) .bench .reader) (advanced k commands (begunOn memory sizes) .items .count)))
 
 -- "`REFUSED n`, `TOO LONG`, `UNREADABLE`: that one line"
 abbrev pub NoSheet : Type 0

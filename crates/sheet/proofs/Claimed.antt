@@ -3,7 +3,6 @@ use Prim.Native.Nat.{ℕ}
 use mathlib.Core.List.{List}
 use Rattle.sheet.proofs.Balancing as Balancing
 use Rattle.sheet.proofs.Itemising as Itemising
-use Rattle.sheet.proofs.LinesOfFoot as LinesOfFoot
 use Rattle.sheet.proofs.Measuring as Measuring
 use Rattle.sheet.proofs.Numbered as Numbered
 use Rattle.sheet.proofs.Ordering as Ordering
@@ -12,7 +11,7 @@ use Rattle.sheet.proofs.Secrets as Secrets
 use Rattle.sheet.proofs.Shown as Shown
 use Rattle.sheet.proofs.Summing as Summing
 use Rattle.sheet.proofs.Together as Together
-use Rattle.sheet.specs.Claims.{EveryFailureOnce, RowForEachItem, ItemsCounted, BalanceHolds, ReasonsSummed, BytesOfDrops, Rising, DropsTogether, CommandsShown, SameSheet, PieceByPiece, PiecesAreTheText, EnoughPieces, FootLines, WhatWaits}
+use Rattle.sheet.specs.Claims.{EveryFailureOnce, RowForEachItem, ItemsCounted, BalanceHolds, ReasonsSummed, BytesOfDrops, Rising, DropsTogether, CommandsShown, SameSheet, PieceByPiece, PiecesAreTheText, EnoughPieces}
 
 -- ---- the items
 
@@ -58,11 +57,3 @@ pieces-are-the-text = Pieces.pieces-are-the-text
 
 pub enough-pieces : EnoughPieces
 enough-pieces = Pieces.enough-pieces
-
--- ---- the foot
-
-pub foot-lines : FootLines
-foot-lines = LinesOfFoot.foot-lines
-
-pub what-waits : WhatWaits
-what-waits = LinesOfFoot.what-waits

@@ -1,4 +1,5 @@
 -- All that the sheet is made of behind its head, opened at once for what is computed.
+use Rattle.foot.specs.Foot.{failuresLine, nameLine, endLine, signatureLines, waitingRows, foot, endFor}
 use Rattle.frame.specs.Bytes.{firstOf}
 use Rattle.machine.proofs.Computed.{opened as machine}
 use Rattle.machine.specs.Machine.{bytesLeft, tagsLeft, work}
@@ -9,7 +10,7 @@ use Rattle.report.specs.Report.{placeIn, laidOut, placesOf, fresh}
 use Rattle.rows.specs.Columns.{boxedRow, plainRow, numberPlace, numbered, blankRows}
 use Rattle.rows.specs.Rows.{rangeText, bytesText, isSome, reasonsIn, cellPlace, cellText, withCell, withReasons, droppedIn, errorRow, dropRows, itemRows, waitingRow}
 use Rattle.sheet.specs.Items.{failing, joins, grown, oneMore, itemsAfter, closes}
-use Rattle.sheet.specs.Sheet.{commandWith, commandAt, lastRows, failuresLine, nameLine, endLine, signatureLines, waitingRows, foot, endFor, itemsBy, isTold, partFor, teller}
+use Rattle.sheet.specs.Sheet.{commandWith, commandAt, lastRows, itemsBy, isTold, partFor, teller}
 use Rattle.text.specs.Counts.{goodWord, errorWord, droppedWord, spaceWord, leftWord, countPart, twoCounts, tallyPart, countsLine}
 use Rattle.text.specs.Digits.{hexDigit, hexByte, widthBy, width, digits, decimal}
 use Rattle.text.specs.Laying.{spaces}

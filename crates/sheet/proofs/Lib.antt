@@ -2,11 +2,9 @@ pub mod Balancing
 pub mod Calling
 pub mod Claimed
 pub mod Computed
-pub mod FootTexts
 pub mod ItemByItem
 pub mod Itemising
 pub mod Joining
-pub mod LinesOfFoot
 pub mod Measuring
 pub mod Numbered
 pub mod Ordering

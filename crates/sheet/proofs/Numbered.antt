@@ -10,6 +10,7 @@ use native.Mathlib.Omega.{arith}
 use Rattle.machine.specs.Machine.{State, call, Step, step, codeAt}
 use Rattle.frame.proofs.Picks.{by-test, pick-true, pick-false}
 use Rattle.frame.proofs.Tests.{either}
+use Rattle.foot.specs.Foot.{endFor}
 use Rattle.frame.specs.Bytes.{pick}
 use Rattle.frame.specs.declared.finding.Reason.{Reason}
 use Rattle.report.specs.Lines.{ends}
@@ -24,7 +25,7 @@ use Rattle.sheet.proofs.Tellings.{falls}
 use Rattle.sheet.specs.Claims.{goesOn, RowForEachItem, ItemsCounted}
 use Rattle.sheet.specs.Itemised.{advanced, pending, closedBy, itemised, rowsFrom}
 use Rattle.sheet.specs.Items.{itemOf, itemsOf, failing, joins, grown, oneMore, itemsAfter, closes}
-use Rattle.sheet.specs.Sheet.{Standing, standingOf, commandAt, lastRows, endFor, itemsBy, isTold, partFor, teller}
+use Rattle.sheet.specs.Sheet.{Standing, standingOf, commandAt, lastRows, itemsBy, isTold, partFor, teller}
 use Rattle.sheet.specs.declared.items.Failing.{Failing}
 use Rattle.sheet.specs.declared.items.Failing.the-variants.{Passed, Error, Drop}
 use Rattle.sheet.specs.declared.items.Items.{Items}
@@ -146,7 +147,7 @@ counted-call items cursor (Drop r) less =
 -- ---- the text
 
 -- a call after which the sheet goes on ends nothing
-ends-none : (input : List ℕ) (reader : Reader) (items : Items) (o : Outcome) → ends o ≡ false → endFor input reader items o ≡ []
+ends-none : (input : List ℕ) (reader : Reader) (items : ℕ) (o : Outcome) → ends o ≡ false → endFor input reader items o ≡ []
 unfolding ends endFor
 ends-none input reader items Answered h = refl
 ends-none input reader items (Dropped r) h = refl
@@ -165,7 +166,7 @@ rows-closed closed input items =
     either closed (λ yes-closed. rw (yes-closed, pick-true, pick-true) (last-rows input items)) (λ growing. rw (growing, pick-false, pick-false))
 
 abbrev Ending : List ℕ → Standing → List ℕ
-Ending input s = endFor input (step (call input) (s .bench) .next .reader) (s .items) (step (call input) (s .bench) .outcome)
+Ending input s = endFor input (step (call input) (s .bench) .next .reader) (s .items .count) (step (call input) (s .bench) .outcome)
 
 module _ (input : List ℕ) where
   -- the last call tells the last item, and ends the text
@@ -192,7 +193,7 @@ module _ (input : List ℕ) where
   unfolding teller partFor isTold
   more-text s on =
       text-more (teller input) (falls input) s
-      ∙ rw (on, ends-none input (step (call input) (s .bench) .next .reader) (s .items) (step (call input) (s .bench) .outcome) on)
+      ∙ rw (on, ends-none input (step (call input) (s .bench) .next .reader) (s .items .count) (step (call input) (s .bench) .outcome) on)
       (ap (λ (l : List ℕ). l ++ textFrom (teller input) false (teller input .next s))
       (append-nil _ ∙ rows-closed (closes (s .items) (Cursor s) (Failed s)) input (s .items)))
 

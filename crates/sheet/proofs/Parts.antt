@@ -13,15 +13,17 @@ use Rattle.machine.specs.Lent.{selectionIn}
 use Rattle.calls.specs.Calls.{stepOf}
 use Rattle.machine.specs.Machine.{State, stateOf, call, Step, step, stepUnless, codeAt, parametersAt}
 use Rattle.calls.specs.declared.calling.Called.{Called}
+use Rattle.foot.proofs.FootTexts.{ended-by}
+use Rattle.foot.specs.Foot.{endFor, Ended}
 use Rattle.frame.proofs.Picks.{pick-true, pick-false}
+use Rattle.frame.proofs.Stores.{length-put}
 use Rattle.frame.specs.Bytes.{pick, number, part}
 use Rattle.frame.specs.Putting.{Put}
 use Rattle.report.specs.Lines.{ends}
-use Rattle.text.proofs.Chains.{PutBy, join-by}
+use Rattle.text.proofs.Chains.{PutBy, within-by, none-by, join-by}
 use Rattle.rows.specs.Rows.{itemRows}
-use Rattle.sheet.proofs.FootTexts.{none-by, within-by}
 use Rattle.sheet.specs.Items.{failing, itemsAfter, closes}
-use Rattle.sheet.specs.Sheet.{Standing, standingOf, commandWith, commandAt, lastRows, endFor, itemsBy, isTold, partFor, teller}
+use Rattle.sheet.specs.Sheet.{Standing, standingOf, commandWith, commandAt, lastRows, itemsBy, isTold, partFor, teller}
 use Rattle.sheet.specs.Writing.{OnePart}
 use Rattle.sheet.specs.declared.items.Failing.{Failing}
 use Rattle.sheet.specs.declared.items.Items.{Items}
@@ -93,16 +95,18 @@ module _ (input : List ℕ) (s : Standing) (r : Called) (memory bytes output : L
 
   pub one-part : (at : ℕ) (before middle after : List ℕ) (behind next : ℕ) (f : Failing) (over told : Bool) (items : Items) → f ≡ failing output (r .outcome)
       → over ≡ ends (r .outcome) → told ≡ (over || closes (s .items) (s .bench .reader .cursor) f) → items ≡ itemsAfter (s .items) (s .bench .reader .cursor) f
+      → at + 1024 ≤ length before
       → PutBy 300 (pick told (lastRows input (s .items)) []) at before middle behind
-      → PutBy 516 (endFor input (r .reader) (s .items) (r .outcome)) behind middle after next
+      → Ended (endFor input (r .reader) (s .items .count) (r .outcome)) behind middle after next
       → OnePart input s at before after
       (standingOf (stateOf memory (s .bench .places) (s .bench .tags) (selectionIn bytes (r .count)) output (r .reader) (r .next)) items)
       record { used = next; progress = record { reader = r .reader; next = r .next; count = r .count; items = items; over = over } }
   unfolding teller partFor isTold itemsBy
-  one-part at before middle after behind next f over told items f-is over-is told-is items-are rows end =
+  one-part at before middle after behind next f over told items f-is over-is told-is items-are room rows end =
       let x : Step = stepOf r memory (s .bench .places) (s .bench .tags) bytes output in
       let known : told ≡ isTold s x = told-is ∙ rw (over-is, f-is) in
-      let whole = join-by 300 516 _ _ at before middle after behind next rows end in
+      let ending = ended-by _ behind middle after next (omega (arith, rows .1, length-put _ at before middle behind (rows .0))) end in
+      let whole = join-by 300 516 _ _ at before middle after behind next rows ending in
       let part : Put (partFor input s x) at before after next = rw known at (whole .0) in
       record {
         put = subst (λ (y : Step). Put (partFor input s y) at before after next) made-is part;

@@ -8,6 +8,7 @@ use mathlib.Core.Path.{_≡_, refl, ap, sym, _∙_}
 use Rattle.machine.proofs.Claimed.{demand3}
 use Rattle.machine.specs.Machine.{State, call, Step, step, run}
 use Rattle.machine.specs.Secrecy.{SameCall, Throughout}
+use Rattle.foot.specs.Foot.{endFor}
 use Rattle.frame.specs.Bytes.{pick}
 use Rattle.frame.specs.Finding.{reasonNumber}
 use Rattle.frame.specs.declared.finding.Reason.{Reason}
@@ -21,7 +22,7 @@ use Rattle.report.specs.Lines.{ends}
 use Rattle.sheet.proofs.Tellings.{falls}
 use Rattle.sheet.specs.Claims.{goesOn, SameSheet}
 use Rattle.sheet.specs.Items.{failing, itemsAfter, closes}
-use Rattle.sheet.specs.Sheet.{Standing, standingOf, lastRows, endFor, itemsBy, isTold, partFor, teller}
+use Rattle.sheet.specs.Sheet.{Standing, standingOf, lastRows, itemsBy, isTold, partFor, teller}
 use Rattle.sheet.specs.declared.items.Items.{Items}
 use Rattle.text.proofs.Told.{text-over, text-more}
 use Rattle.text.specs.Telling.{textFrom}

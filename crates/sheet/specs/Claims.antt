@@ -1,26 +1,24 @@
--- The claims page of the sheet behind its head: its items, its rows and its foot. Each statement is proved in proofs/Claimed.antt.
+-- The claims page of the sheet between its head and its foot: its items and its rows. Each statement is proved in proofs/Claimed.antt.
 use Prim.Native.Nat.{ℕ, zero, suc, _+_, _-_, _*_, _/_, _%_, _≤_, _<_}
 use mathlib.Core.Bool.{Bool, true, false}
 use mathlib.Core.List.{List, [], _∷_, _++_}
 use mathlib.Core.Logic.{_⊎_}
 use mathlib.Core.Path.{_≡_}
 use lib.ListN.{length, drop, replicate}
+use Rattle.foot.specs.Foot.{endFor}
 use Rattle.machine.specs.Claims.{Premises, withMemory}
 use Rattle.machine.specs.Machine.{State, call, step, work, codeAt}
 use Rattle.frame.specs.declared.finding.Reason.{Reason}
 use Rattle.frame.specs.declared.finding.Reason.the-variants.{NoHeader, WrongType, TooLong, WrongCheck, WrongEnd}
 use Rattle.reader.specs.Tallies.{freshTally}
-use Rattle.reader.specs.declared.state.Reader.{Reader}
 use Rattle.reader.specs.declared.tally.Tally.{Tally}
 use Rattle.naming.specs.Commands.{commandText}
 use Rattle.report.specs.Lines.{ends}
-use Rattle.rows.specs.Rows.{droppedIn, waitingRow}
+use Rattle.rows.specs.Rows.{droppedIn}
 use Rattle.rows.specs.declared.items.Item.{Item}
 use Rattle.sheet.specs.Itemised.{advanced, itemised, rowsFrom, faults, allFaults}
-use Rattle.sheet.specs.Sheet.{Standing, standingOf, commandAt, waitingRows, foot, endFor, teller, begunOn}
+use Rattle.sheet.specs.Sheet.{Standing, standingOf, commandAt, teller, begunOn}
 use Rattle.sheet.specs.declared.items.Items.{Items}
-use Rattle.text.specs.Counts.{countsLine}
-use Rattle.text.specs.Digits.{decimal}
 use Rattle.text.specs.Telling.{textFrom, fill, pieces}
 use Rattle.text.specs.Words.{ascii}
 
@@ -45,7 +43,7 @@ RowForEachItem =
     → goesOn k input (s .bench)
     → textFrom (teller input) false s
     ≡ rowsFrom 1 input (itemised k input s)
-    ++ endFor input (step (call input) (advanced k input s .bench) .next .reader) (advanced k input s .items)
+    ++ endFor input (step (call input) (advanced k input s .bench) .next .reader) (advanced k input s .items .count)
     (step (call input) (advanced k input s .bench) .outcome)
 
 -- the number that the foot tells is that of the rows
@@ -181,31 +179,3 @@ PiecesAreTheText =
 abbrev pub EnoughPieces : Type 0
 EnoughPieces =
     (input : List ℕ) (room : ℕ) (s : Standing) → 1024 ≤ room → pieces (teller input) 1024 (replicate (suc (work input (s .bench))) room) false s .over ≡ true
-
--- ---- the foot
-
--- what waits, a blank line, the counts of the report, the balance, a line for the names and the last line
-abbrev pub FootLines : Type 0
-FootLines =
-    (input : List ℕ) (reader : Reader) (items : Items)
-    → foot input reader items
-    ≡ waitingRows (reader .cursor) (length input)
-    ++ (10 ∷ [])
-    ++ countsLine (reader .tally) (length input - reader .cursor)
-    ++ ((ascii "FAILURES " ++ decimal (reader .tally .error + droppedIn (reader .tally)))
-    ++ (ascii " = ERROR " ++ decimal (reader .tally .error))
-    ++ (ascii " + DROPPED " ++ decimal (droppedIn (reader .tally)))
-    ++ (ascii ", ITEMS " ++ decimal (items .count))
-    ++ (10 ∷ []))
-    ++ ((10 ∷ [])
-    ++ ascii "Line builder ______________________   Inspector ______________________   Date ____________"
-    ++ (10 ∷ [])
-    ++ (ascii "END OF SHEET" ++ (10 ∷ [])))
-
--- the bytes from the cursor on wait, where there are some
-pub record WaitingRows (cursor size : ℕ) : Type 0 where
-  pub none : size ≤ cursor → waitingRows cursor size ≡ []
-  pub some : cursor < size → waitingRows cursor size ≡ waitingRow cursor size
-
-abbrev pub WhatWaits : Type 0
-WhatWaits = (cursor size : ℕ) → WaitingRows cursor size

@@ -1,4 +1,3 @@
 // The sheet that is signed: every failure of a run, item by item.
-pub mod foot;
 pub mod items;
 pub mod telling;

@@ -1,11 +1,11 @@
 // The rows and the foot of the sheet, written in pieces: each call of `write` fills a lent buffer, and hands back where to go on.
-use crate::foot::put_end;
 use crate::items::Failing;
 use crate::items::Items;
 use crate::items::closes;
 use crate::items::failing_of;
 use crate::items::items_after;
 use calls::calling::call;
+use foot::ending::put_end;
 use frame::bytes::byte_at;
 use frame::bytes::fits;
 use frame::bytes::number_at;
@@ -162,7 +162,7 @@ fn write_part(
     let told = is_told(over, items, reader.cursor, failing);
     let behind = put_last(buffer, at, input, items, told);
     let moved = called.reader;
-    let used = put_end(buffer, behind, input, moved, items, outcome);
+    let used = put_end(buffer, behind, input, moved, items.count, outcome);
     Written {
         used,
         progress: Progress {

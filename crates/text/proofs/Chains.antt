@@ -1,15 +1,15 @@
 -- Pieces laid one behind the other, each of them short enough, are put as one piece where all of them have room.
 use Prim.Native.Nat.{ℕ, _+_, _≤_}
 use lib.ListN.{length}
-use mathlib.Core.List.{List, _++_}
-use mathlib.Core.Path.{_≡_, subst}
+use mathlib.Core.List.{List, [], _++_}
+use mathlib.Core.Path.{_≡_, refl, subst}
 use native.Mathlib.Omega.{arith}
 use Rattle.frame.proofs.Stores.{length-put}
 use Rattle.frame.specs.Putting.{Put}
-use Rattle.text.proofs.Laying.{laid-put}
+use Rattle.text.proofs.Laying.{laid-put, within-put}
 use Rattle.text.proofs.Puts.{put-join}
 use Rattle.text.specs.Digits.{hexByte}
-use Rattle.text.specs.Laying.{Laid}
+use Rattle.text.specs.Laying.{Laid, LaidWithin}
 
 -- the piece is put, and takes at most so many bytes: what a function promises that puts its pieces one behind the other
 abbrev pub PutBy : ℕ → List ℕ → ℕ → List ℕ → List ℕ → ℕ → Type 0
@@ -21,12 +21,21 @@ module _ (most : ℕ) (piece : List ℕ) (at : ℕ) (before after : List ℕ) (r
       let put : Put piece at before after result = laid-put piece at before after result (omega arith) laid in
       (put, omega (arith, put .next-is))
 
+  pub within-by : at + most ≤ length before → LaidWithin most piece at before after result → PutBy most piece at before after result
+  within-by room laid =
+      let put = within-put most piece at before after result room laid in
+      (put, omega (arith, put .next-is, laid .short))
+
   -- what is left of the room
   pub room-by : (more : ℕ) → at + (most + more) ≤ length before → PutBy most piece at before after result → result + more ≤ length after
   room-by more room put = omega (arith, put .1, length-put piece at before after result (put .0))
 
   pub is-by : (other : List ℕ) → piece ≡ other → PutBy most piece at before after result → PutBy most other at before after result
   is-by other e = subst (λ (text : List ℕ). PutBy most text at before after result) e
+
+-- nothing is put
+pub none-by : (most at : ℕ) (before : List ℕ) → PutBy most [] at before before at
+none-by most at before = (record { output-is = refl; next-is = omega arith }, omega arith)
 
 module _ (m n : ℕ) (a b : List ℕ) (at : ℕ) (before middle after : List ℕ) (next last : ℕ) where
   pub join-by : PutBy m a at before middle next → PutBy n b next middle after last → PutBy (m + n) (a ++ b) at before after last

@@ -43,9 +43,10 @@ returns c =
     let over = told .before in
     let fails = over .before in
     let made = fails .before .before .before .before .before .before in
-    let a = made .before .before .before .before .before .before .before .before .before .before .args in
+    let start = made .before .before .before .before .before .before .before .before .before .before in
+    let a = start .args in
     one-part (a .input .now) (standingAt (a .memory .now) (a .places) (a .tags) (a .selection .now) (a .output .now) (a .progress)) _ _ _ _ (made .call .ensures .0)
-    _ _ _ _ _ _ _ _ _ _ (fails .failing-of .ensures) (over .is-last .ensures) (told .is-told .ensures) (c .items-after .ensures) (rows .put-last .ensures) (end .put-end .ensures)
+    _ _ _ _ _ _ _ _ _ _ (fails .failing-of .ensures) (over .is-last .ensures) (told .is-told .ensures) (c .items-after .ensures) (start .pre) (rows .put-last .ensures) (end .put-end .ensures)
 
 pub write-part-spec : {M : Type 1} → statement M
 write-part-spec = tie.close (tie.spec call-requires failing-of-requires is-last-requires is-told-requires put-last-requires put-end-requires items-after-requires same-length same-length-2 same-length-3 returns)

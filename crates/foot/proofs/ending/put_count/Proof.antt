@@ -1,10 +1,10 @@
 -- `put_count` meets its contract: a word, and its number.
 use native.Mathlib.Omega.{arith}
-use Rattle.sheet.proofs.FootTexts.{count-by}
+use Rattle.foot.proofs.FootTexts.{count-by}
 use Rattle.text.proofs.Decimals.{decimal-64}
 use borrow.Author.Needs.{needs}
-use Rattle.sheet.proofs.foot.put_count.Statement.{statement}
-use Rattle.sheet.proofs.foot.put_count.Tie as tie
+use Rattle.foot.proofs.ending.put_count.Statement.{statement}
+use Rattle.foot.proofs.ending.put_count.Tie as tie
 
 put-text-requires : tie.Need-put-text-requires
 put-text-requires c κs = search needs

@@ -1,8 +1,8 @@
 -- `put_foot` meets its contract: what waits, the counts, the failures, and the lines for the names.
-use Rattle.sheet.proofs.FootTexts.{counts-room, names-room, foot-by}
+use Rattle.foot.proofs.FootTexts.{counts-room, names-room, foot-by}
 use borrow.Author.Needs.{needs}
-use Rattle.sheet.proofs.foot.put_foot.Statement.{statement}
-use Rattle.sheet.proofs.foot.put_foot.Tie as tie
+use Rattle.foot.proofs.ending.put_foot.Statement.{statement}
+use Rattle.foot.proofs.ending.put_foot.Tie as tie
 
 put-waiting-rows-requires : tie.Need-put-waiting-rows-requires
 put-waiting-rows-requires c κs = search needs

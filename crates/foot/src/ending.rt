@@ -1,5 +1,5 @@
 // What ends the sheet: what waits, the counts, and the lines for the names.
-use crate::items::Items;
+use frame::bytes::reaches;
 use reader::outcome::Outcome;
 use reader::state::Reader;
 use reader::tally::Tally;
@@ -13,7 +13,7 @@ use text::putting::put_text;
 ghost use Prim.Native.Nat.{_+_, _≤_};
 ghost use lib.ListN.{length};
 ghost use Rattle.frame.specs.Putting.{Put};
-ghost use Rattle.sheet.specs.Sheet.{failuresLine, signatureLines, waitingRows, foot, endFor};
+ghost use Rattle.foot.specs.Foot.{failuresLine, signatureLines, waitingRows, foot, endFor, Ended};
 ghost use Rattle.text.specs.Counts.{countPart};
 
 // A word and the number behind it.
@@ -64,7 +64,7 @@ fn put_waiting_rows(buffer: &mut [u8], at: usize, cursor: usize, size: usize) ->
     put_waiting(buffer, at, cursor, size)
 }
 
-fn put_foot(buffer: &mut [u8], at: usize, input: &[u8], reader: Reader, items: Items) -> usize
+fn put_foot(buffer: &mut [u8], at: usize, input: &[u8], reader: Reader, items: usize) -> usize
     requires { ⌜ at + 516 ≤ length (now buffer) ⌝ }
     ensures { λ r. ⌜ Put (foot (now (input .entry)) reader items) at (now (buffer .entry)) (now (buffer .exit)) r ⌝ }
     ensures { λ r. ⌜ r ≤ at + 516 ⌝ }
@@ -73,17 +73,16 @@ fn put_foot(buffer: &mut [u8], at: usize, input: &[u8], reader: Reader, items: I
     let second = put_waiting_rows(buffer, at, cursor, input.len());
     let third = put_text(buffer, second, b"\n");
     let fourth = put_counts(buffer, third, reader.tally, missing(input.len(), cursor));
-    let last = put_failures(buffer, fourth, reader.tally, items.count);
+    let last = put_failures(buffer, fourth, reader.tally, items);
     put_signature(buffer, last)
 }
 
-// What a call ends the sheet with, where it does.
-pub(crate) fn put_end(
+fn put_end_text(
     buffer: &mut [u8],
     at: usize,
     input: &[u8],
     reader: Reader,
-    items: Items,
+    items: usize,
     outcome: Outcome,
 ) -> usize
     requires { ⌜ at + 516 ≤ length (now buffer) ⌝ }
@@ -101,4 +100,21 @@ pub(crate) fn put_end(
         Outcome::FullTally => put_refused(buffer, at, 13),
         Outcome::FullList => put_refused(buffer, at, 14),
     }
+}
+
+// What a call ends the sheet with, where it does. The longest foot has room, or nothing is put.
+pub fn put_end(
+    buffer: &mut [u8],
+    at: usize,
+    input: &[u8],
+    reader: Reader,
+    items: usize,
+    outcome: Outcome,
+) -> usize
+    ensures { λ r. ⌜ Ended (endFor (now (input .entry)) reader items outcome) at (now (buffer .entry)) (now (buffer .exit)) r ⌝ }
+{
+    if !reaches(buffer, at, 516) {
+        return at;
+    }
+    put_end_text(buffer, at, input, reader, items, outcome)
 }

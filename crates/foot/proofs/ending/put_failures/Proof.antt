@@ -1,10 +1,10 @@
 -- `put_failures` meets its contract: four numbers, each behind its word.
 use Prim.Native.Nat.{ℕ, _+_}
 use mathlib.Core.Path.{ap}
-use Rattle.sheet.proofs.FootTexts.{failures-by}
+use Rattle.foot.proofs.FootTexts.{failures-by}
 use borrow.Author.Needs.{needs}
-use Rattle.sheet.proofs.foot.put_failures.Statement.{statement}
-use Rattle.sheet.proofs.foot.put_failures.Tie as tie
+use Rattle.foot.proofs.ending.put_failures.Statement.{statement}
+use Rattle.foot.proofs.ending.put_failures.Tie as tie
 
 cast-error : tie.Need-cast-error
 cast-error c = search needs

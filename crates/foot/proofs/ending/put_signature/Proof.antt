@@ -1,9 +1,9 @@
 -- `put_signature` meets its contract: the line for the names, and the last line.
-use Rattle.sheet.proofs.FootTexts.{signature-by}
-use Rattle.sheet.specs.Sheet.{nameLine, endLine}
+use Rattle.foot.proofs.FootTexts.{signature-by}
+use Rattle.foot.specs.Foot.{nameLine, endLine}
 use borrow.Author.Needs.{needs}
-use Rattle.sheet.proofs.foot.put_signature.Statement.{statement}
-use Rattle.sheet.proofs.foot.put_signature.Tie as tie
+use Rattle.foot.proofs.ending.put_signature.Statement.{statement}
+use Rattle.foot.proofs.ending.put_signature.Tie as tie
 
 slice-aggregate-put-text : tie.Need-slice-aggregate-put-text
 slice-aggregate-put-text c = search needs

@@ -1,10 +1,11 @@
--- `put_end` meets its contract: by how the call ended.
-use Rattle.sheet.proofs.FootTexts.{none-by, refused-by, end-as}
+-- `put_end_text` meets its contract: by how the call ended.
+use Rattle.foot.proofs.FootTexts.{refused-by, end-as}
+use Rattle.text.proofs.Chains.{none-by}
 use Rattle.reader.specs.Outcomes.{numberOf}
-use Rattle.sheet.specs.Sheet.{endFor}
+use Rattle.foot.specs.Foot.{endFor}
 use borrow.Author.Needs.{needs}
-use Rattle.sheet.proofs.foot.put_end.Statement.{statement}
-use Rattle.sheet.proofs.foot.put_end.Tie as tie
+use Rattle.foot.proofs.ending.put_end_text.Statement.{statement}
+use Rattle.foot.proofs.ending.put_end_text.Tie as tie
 
 enum-told : tie.Need-enum-told
 enum-told c = search needs
@@ -111,5 +112,5 @@ returns-9 : tie.Need-returns-9
 unfolding endFor numberOf
 returns-9 c = end-as _ _ _ _ _ _ _ _ _ (c .before .before .before .before .enum-told9 .given .1) (refused-by _ _ _ _ _ (c .before .before .before .before .before .before .before .before .pre) (c .before .before .put-refused5 .ensures))
 
-pub put-end-spec : {M : Type 1} → statement M
-put-end-spec = tie.close (tie.spec enum-told enum-told-2 enum-told-3 put-foot-requires enum-told-4 put-foot-requires-2 enum-told-5 put-refused-requires enum-told-6 put-refused-requires-2 enum-told-7 put-refused-requires-3 enum-told-8 put-refused-requires-4 enum-told-9 put-refused-requires-5 returns returns-2 same-length returns-3 same-length-2 returns-4 same-length-3 returns-5 same-length-4 returns-6 same-length-5 returns-7 same-length-6 returns-8 same-length-7 returns-9)
+pub put-end-text-spec : {M : Type 1} → statement M
+put-end-text-spec = tie.close (tie.spec enum-told enum-told-2 enum-told-3 put-foot-requires enum-told-4 put-foot-requires-2 enum-told-5 put-refused-requires enum-told-6 put-refused-requires-2 enum-told-7 put-refused-requires-3 enum-told-8 put-refused-requires-4 enum-told-9 put-refused-requires-5 returns returns-2 same-length returns-3 same-length-2 returns-4 same-length-3 returns-5 same-length-4 returns-6 same-length-5 returns-7 same-length-6 returns-8 same-length-7 returns-9)

@@ -7,32 +7,21 @@ use mathlib.Core.Bool.{true, false}
 use mathlib.Core.List.{List, [], _∷_, _++_}
 use mathlib.Core.Path.{_≡_, refl, ap, sym, subst, _∙_}
 use native.Mathlib.Omega.{arith}
+use Rattle.frame.proofs.Copies.{there-reaches}
 use Rattle.frame.proofs.Picks.{pick-true, pick-false}
 use Rattle.frame.proofs.Stores.{length-put}
-use Rattle.frame.specs.Bytes.{pick}
+use Rattle.frame.specs.Bytes.{pick, reaches}
 use Rattle.frame.specs.Putting.{Put}
 use Rattle.reader.specs.declared.outcome.Outcome.{Outcome}
 use Rattle.reader.specs.declared.state.Reader.{Reader}
 use Rattle.reader.specs.declared.tally.Tally.{Tally}
-use Rattle.text.proofs.Chains.{PutBy, laid-by, join-by, more-by}
+use Rattle.text.proofs.Chains.{PutBy, laid-by, within-by, none-by, join-by, more-by}
 use Rattle.rows.specs.Rows.{droppedIn, waitingRow}
-use Rattle.sheet.specs.Sheet.{failuresLine, nameLine, endLine, signatureLines, waitingRows, foot, endFor}
-use Rattle.sheet.specs.declared.items.Items.{Items}
-use Rattle.text.proofs.Laying.{within-put}
+use Rattle.foot.specs.Foot.{failuresLine, nameLine, endLine, signatureLines, waitingRows, foot, endFor, Ended}
 use Rattle.text.specs.Counts.{countPart, countsLine, refusedLine}
 use Rattle.text.specs.Digits.{decimal}
 use Rattle.text.specs.Laying.{Laid, LaidWithin}
 use Rattle.text.specs.Words.{ascii}
-
-pub within-by : (most : ℕ) (piece : List ℕ) (at : ℕ) (before after : List ℕ) (result : ℕ) → at + most ≤ length before → LaidWithin most piece at before after result
-    → PutBy most piece at before after result
-within-by most piece at before after result room laid =
-    let put = within-put most piece at before after result room laid in
-    (put, omega (arith, put .next-is, laid .short))
-
--- nothing is put
-pub none-by : (most at : ℕ) (before : List ℕ) → PutBy most [] at before before at
-none-by most at before = (record { output-is = refl; next-is = omega arith }, omega arith)
 
 -- a word and its number, of at most twenty digits
 abbrev pub Counted : List ℕ → ℕ → ℕ → List ℕ → List ℕ → ℕ → Type 0
@@ -83,11 +72,11 @@ module _ (at : ℕ) (before : List ℕ) where
   waits cursor size after next room h laid =
       rw (lt-leb size cursor h, pick-false) (within-by 100 (waitingRow cursor size) at before after next room laid)
 
-  pub foot-by : (input : List ℕ) (reader : Reader) (items : Items) (left : ℕ) (b1 b2 b3 b4 b5 : List ℕ) (r1 r2 r3 r4 r5 : ℕ) → at + 516 ≤ length before
+  pub foot-by : (input : List ℕ) (reader : Reader) (items : ℕ) (left : ℕ) (b1 b2 b3 b4 b5 : List ℕ) (r1 r2 r3 r4 r5 : ℕ) → at + 516 ≤ length before
       → left ≡ length input - reader .cursor
       → PutBy 100 (waitingRows (reader .cursor) (length input)) at before b1 r1 → Laid (10 ∷ []) r1 b1 b2 r2
       → LaidWithin 192 (countsLine (reader .tally) left) r2 b2 b3 r3
-      → PutBy 118 (failuresLine (reader .tally) (items .count)) r3 b3 b4 r4 → PutBy 105 signatureLines r4 b4 b5 r5
+      → PutBy 118 (failuresLine (reader .tally) items) r3 b3 b4 r4 → PutBy 105 signatureLines r4 b4 b5 r5
       → PutBy 516 (foot input reader items) at before b5 r5
   unfolding foot
   foot-by input reader items left b1 b2 b3 b4 b5 r1 r2 r3 r4 r5 room left-is a b c d e =
@@ -98,7 +87,7 @@ module _ (at : ℕ) (before : List ℕ) where
       let four = join-by 293 118 _ _ at before b3 b4 r3 r4 three d in
       join-by 411 105 _ _ at before b4 b5 r4 r5 four e
 
-pub end-as : (input : List ℕ) (reader : Reader) (items : Items) (known o : Outcome) (at : ℕ) (before after : List ℕ) (next : ℕ) → o ≡ known
+pub end-as : (input : List ℕ) (reader : Reader) (items : ℕ) (known o : Outcome) (at : ℕ) (before after : List ℕ) (next : ℕ) → o ≡ known
     → PutBy 516 (endFor input reader items known) at before after next → PutBy 516 (endFor input reader items o) at before after next
 end-as input reader items known o at before after next e = subst (λ (k : Outcome). PutBy 516 (endFor input reader items k) at before after next) (sym e)
 
@@ -125,3 +114,22 @@ module _ (rows counts : List ℕ) (at : ℕ) (before b1 b2 b3 : List ℕ) (r1 r2
   names-room failures b4 r4 d =
       let four = join-by 293 118 _ failures at before b3 b4 r3 r4 up-to-counts d in
       omega (arith, four .1, length-put _ at before b4 r4 (four .0))
+
+-- ---- in any buffer
+
+module _ (text : List ℕ) (at : ℕ) (before : List ℕ) where
+  pub ended : (after : List ℕ) (result : ℕ) → reaches before at 516 ≡ true → PutBy 516 text at before after result → Ended text at before after result
+  ended after result fits put =
+      record {
+        bytes-are = put .0 .output-is ∙ sym (rw (fits, pick-true));
+        result-is = put .0 .next-is ∙ sym (rw (fits, pick-true));
+        most = put .1;
+      }
+
+  pub none-ended : reaches before at 516 ≡ false → Ended text at before before at
+  none-ended none = record { bytes-are = sym (rw (none, pick-false)); result-is = sym (rw (none, pick-false)); most = omega arith }
+
+  pub ended-by : (after : List ℕ) (result : ℕ) → at + 516 ≤ length before → Ended text at before after result → PutBy 516 text at before after result
+  ended-by after result room e =
+      let fits : reaches before at 516 ≡ true = there-reaches before at 516 room in
+      (record { output-is = e .bytes-are ∙ rw (fits, pick-true); next-is = e .result-is ∙ rw (fits, pick-true) }, e .most)

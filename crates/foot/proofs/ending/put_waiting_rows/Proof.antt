@@ -1,9 +1,9 @@
 -- `put_waiting_rows` meets its contract: none, or one.
 use native.Mathlib.Omega.{arith}
-use Rattle.sheet.proofs.FootTexts.{waits-not, waits}
+use Rattle.foot.proofs.FootTexts.{waits-not, waits}
 use borrow.Author.Needs.{needs}
-use Rattle.sheet.proofs.foot.put_waiting_rows.Statement.{statement}
-use Rattle.sheet.proofs.foot.put_waiting_rows.Tie as tie
+use Rattle.foot.proofs.ending.put_waiting_rows.Statement.{statement}
+use Rattle.foot.proofs.ending.put_waiting_rows.Tie as tie
 
 returns : tie.Need-returns
 returns c = waits-not _ _ _ _ (c .if1 .taken)
