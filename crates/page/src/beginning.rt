@@ -6,6 +6,7 @@ use report::limits::Files;
 use report::limits::judge;
 use report::limits::write_notice;
 use text::counts::put_refused;
+ghost use Prim.Native.Nat.{_≤_};
 ghost use mathlib.Core.Bool.{false};
 ghost use lib.ListN.{length};
 ghost use Rattle.population.specs.Places.{goodPopulation};
@@ -21,14 +22,9 @@ pub struct Begun {
 
 // Of files that are not run.
 fn begin_notice(files: Files, buffer: &mut [u8]) -> Begun
+    requires { ⌜ 2048 ≤ length (now buffer) ⌝ }
     ensures { λ r. ⌜ Begins (noticeOf files) false (now (buffer .entry)) (now (buffer .exit)) r ⌝ }
 {
-    if buffer.len() < 2048 {
-        return Begun {
-            used: 0,
-            rows: false,
-        };
-    }
     let used = write_notice(files, buffer);
     Begun { used, rows: false }
 }
@@ -42,6 +38,7 @@ fn begin_run(
     places: [Place; 16],
     buffer: &mut [u8],
 ) -> Begun
+    requires { ⌜ 2048 ≤ length (now buffer) ⌝ }
     ensures { λ r. ⌜
         Begins
         (runLines numbered (now (commands .entry)) (now (memory .entry)) (now (sizes .entry)) places)
@@ -49,12 +46,6 @@ fn begin_run(
         (now (buffer .entry)) (now (buffer .exit)) r
         ⌝ }
 {
-    if buffer.len() < 2048 {
-        return Begun {
-            used: 0,
-            rows: false,
-        };
-    }
     if !is_good_population(memory, sizes.len(), places) {
         let used = put_refused(buffer, 0, 11);
         return Begun { used, rows: false };
@@ -80,6 +71,12 @@ pub fn begin(
         (now (buffer .entry)) (now (buffer .exit)) r
         ⌝ }
 {
+    if buffer.len() < 2048 {
+        return Begun {
+            used: 0,
+            rows: false,
+        };
+    }
     let files = judge(readable, commands.len(), sizes);
     match files {
         Files::Unreadable => begin_notice(files, buffer),

@@ -1,8 +1,11 @@
--- `begin` meets its contract: by how the files stand.
-use Rattle.page.proofs.Beginnings.{unreadable-page, long-page, run-page}
+-- `begin` meets its contract: no room, or by how the files stand.
+use Rattle.page.proofs.Beginnings.{too-short, unreadable-page, long-page, run-page}
 use borrow.Author.Needs.{needs}
 use Rattle.page.proofs.beginning.begin.Statement.{statement}
 use Rattle.page.proofs.beginning.begin.Tie as tie
+
+returns : tie.Need-returns
+returns c = too-short _ _ _ (c .if1 .taken)
 
 judge-requires : tie.Need-judge-requires
 judge-requires c κs = search needs
@@ -28,8 +31,8 @@ begin-run-requires c κs = search needs
 same-length : tie.Need-same-length
 same-length c = search needs
 
-returns : tie.Need-returns
-returns c =
+returns-2 : tie.Need-returns-2
+returns-2 c =
     let made = c .before .before in
     let told = made .before .before in
     unreadable-page _ _ _ _ _ _ _ _ _ _ (told .before .before .judge .ensures) (told .enum-told .given .1) (made .begin-notice .ensures)
@@ -37,8 +40,8 @@ returns c =
 same-length-2 : tie.Need-same-length-2
 same-length-2 c = search needs
 
-returns-2 : tie.Need-returns-2
-returns-2 c =
+returns-3 : tie.Need-returns-3
+returns-3 c =
     let made = c .before .before in
     let told = made .before .before in
     long-page _ _ _ _ _ _ _ _ _ _ (told .before .before .judge .ensures) (told .enum-told2 .given .1) (made .begin-notice2 .ensures)
@@ -46,8 +49,8 @@ returns-2 c =
 same-length-3 : tie.Need-same-length-3
 same-length-3 c = search needs
 
-returns-3 : tie.Need-returns-3
-returns-3 c =
+returns-4 : tie.Need-returns-4
+returns-4 c =
     let made = c .before .before in
     let told = made .before .before in
     run-page _ _ _ _ _ _ _ _ _ _ (told .before .before .judge .ensures) (told .enum-told3 .given .1) (made .begin-run .ensures)
@@ -56,6 +59,7 @@ pub begin-spec : {M : Type 1} → statement M
 begin-spec =
     tie.close
     (tie.spec
+    returns
     judge-requires
     enum-told
     begin-notice-requires
@@ -64,8 +68,8 @@ begin-spec =
     enum-told-3
     begin-run-requires
     same-length
-    returns
-    same-length-2
     returns-2
+    same-length-2
+    returns-3
     same-length-3
-    returns-3)
+    returns-4)
