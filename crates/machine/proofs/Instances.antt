@@ -29,7 +29,7 @@ starred = (refl, refl)
 -- ---- a crate of three
 
 -- the sample tag with both password regions locked, and with these passwords
-lockedTag : ℕ → List ℕ
+unfoldable pub lockedTag : ℕ → List ℕ
 lockedTag passwords = sets (sets sample 20 (bytes 2 0x02_80)) 24 (bytes 8 passwords)
 
 first : List ℕ

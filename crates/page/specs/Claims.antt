@@ -3,11 +3,12 @@
 use Prim.Native.Nat.{ℕ, suc, _+_, _*_, _≤_}
 use mathlib.Core.Bool.{Bool, true, false}
 use mathlib.Core.List.{List, [], _∷_, _++_}
+use mathlib.Core.Logic.{_≢_}
 use mathlib.Core.Path.{_≡_}
 use lib.ListN.{length, replicate}
 use Rattle.effects.specs.Sample.{sample}
 use Rattle.foot.specs.Foot.{foot}
-use Rattle.frame.specs.Bytes.{pick}
+use Rattle.frame.specs.Bytes.{pick, part}
 use Rattle.head.specs.Commands.{commandsIn}
 use Rattle.head.specs.Head.{headOf}
 use Rattle.machine.specs.Claims.{inventories, Premises}
@@ -74,6 +75,17 @@ SamePage =
     → Premises (fresh memory sizes) n differs (replicate (suc k) (call commands)) (fresh n sizes)
     → goesOn k commands (fresh memory sizes)
     → sheetOf isCrate commands memory sizes ≡ sheetOf isCrate commands n sizes
+
+-- These premises can be met: by a tag whose passwords are other ones in the one run than in the other, and a Read with neither of them, which has a row.
+pub record PremisesMet (k : ℕ) (commands memory n sizes : List ℕ) (differs : ℕ → Bool) : Type 0 where
+  pub premises : Premises (fresh memory sizes) n differs (replicate (suc k) (call commands)) (fresh n sizes)
+  pub goes-on : goesOn k commands (fresh memory sizes)
+  pub first-differs : differs 0 ≡ true
+  pub other-passwords : part memory 24 8 ≢ part n 24 8
+  pub one-item : length (itemised k commands (begunOn memory sizes)) ≡ 1
+
+abbrev pub SamePageCanBeMet : Type 0
+SamePageCanBeMet = (k : ℕ) × (commands : List ℕ) × (memory : List ℕ) × (n : List ℕ) × (sizes : List ℕ) × (differs : ℕ → Bool) × PremisesMet k commands memory n sizes differs
 
 -- ---- pages as literal text
 
