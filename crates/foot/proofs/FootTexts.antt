@@ -1,16 +1,15 @@
 -- The foot of the sheet, put piece behind piece.
 use Prim.Native.Nat.{ℕ, _+_, _-_, _≤_, _<_}
 use borrow.Author.Tests.{le-leb, lt-leb}
-use lib.Dec.{leb}
 use lib.ListN.{length}
 use mathlib.Core.Bool.{true, false}
 use mathlib.Core.List.{List, [], _∷_, _++_}
-use mathlib.Core.Path.{_≡_, refl, ap, sym, subst, _∙_}
+use mathlib.Core.Path.{_≡_, sym, subst, _∙_}
 use native.Mathlib.Omega.{arith}
 use Rattle.frame.proofs.Copies.{there-reaches}
 use Rattle.frame.proofs.Picks.{pick-true, pick-false}
 use Rattle.frame.proofs.Stores.{length-put}
-use Rattle.frame.specs.Bytes.{pick, reaches}
+use Rattle.frame.specs.Bytes.{reaches}
 use Rattle.frame.specs.Putting.{Put}
 use Rattle.reader.specs.declared.outcome.Outcome.{Outcome}
 use Rattle.reader.specs.declared.state.Reader.{Reader}

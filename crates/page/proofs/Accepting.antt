@@ -1,5 +1,5 @@
 -- The commands that the finding rules tell of are those that the run accepts.
-use Prim.Native.Nat.{ℕ, zero, suc, _+_, _≤_}
+use Prim.Native.Nat.{ℕ, zero, suc, _+_}
 use lib.Dec.{eqb}
 use lib.ListN.{length, drop, replicate, length-append}
 use lib.Seq.{drop-drop}
@@ -10,7 +10,7 @@ use mathlib.Core.Path.{_≡_, refl, ap, sym, _∙_}
 use native.Mathlib.Omega.{arith}
 use Rattle.frame.proofs.Accepting.{accepted as taken-frame}
 use Rattle.frame.proofs.Picks.{pick-true, pick-false}
-use Rattle.frame.specs.Bytes.{pick, number}
+use Rattle.frame.specs.Bytes.{number}
 use Rattle.frame.specs.Finding.{find}
 use Rattle.frame.specs.Formats.{commands, plIn}
 use Rattle.frame.specs.declared.finding.Found.{Found}

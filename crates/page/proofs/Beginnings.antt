@@ -2,13 +2,11 @@
 use Prim.Native.Nat.{ℕ, _≤_, _<_}
 use borrow.Author.Tests.{le-leb, not-true, not-false}
 use lib.ListN.{length}
-use mathlib.Core.Bool.{Bool, true, false, not, _&&_}
-use mathlib.Core.List.{List, [], _++_, append-nil}
-use mathlib.Core.Path.{_≡_, refl, ap, sym, _∙_}
+use mathlib.Core.Bool.{Bool, true, false, not}
+use mathlib.Core.List.{List}
+use mathlib.Core.Path.{_≡_, refl, sym, _∙_}
 use native.Mathlib.Omega.{arith}
 use Rattle.frame.proofs.Picks.{pick-true, pick-false}
-use Rattle.frame.proofs.Tests.{holds, fails, either}
-use Rattle.frame.specs.Bytes.{pick}
 use Rattle.frame.specs.Putting.{Put}
 use Rattle.head.specs.Head.{headOf, hasRoom, Headed}
 use Rattle.population.proofs.GoodPopulations.{population-facts}

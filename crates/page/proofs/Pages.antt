@@ -21,7 +21,6 @@ use Rattle.page.specs.Claims.{SamePage, PagePrinted}
 use Rattle.sheet.specs.Items.{noItems}
 use Rattle.page.specs.Page.{sheetOf, printedSheet, runLines, firstLines, beginning, rowsFollow, hasRows}
 use Rattle.sheet.specs.Sheet.{teller, begunOn}
-use Rattle.text.specs.Counts.{refusedLine}
 use Rattle.text.specs.Telling.{textFrom, pieces}
 
 module _ (isCrate : Bool) (commands memory sizes rooms : List ℕ) where

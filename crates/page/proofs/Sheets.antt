@@ -1,5 +1,5 @@
 -- The whole sheet: on a good crate the run ends with its foot.
-use Prim.Native.Nat.{ℕ, zero, suc, _+_, _*_, _≤_, _<_}
+use Prim.Native.Nat.{ℕ, zero, suc, _+_, _≤_, _<_}
 use lib.ListN.{length, replicate}
 use mathlib.Core.Bool.{Bool, true, false, not}
 use mathlib.Core.List.{List, [], _∷_, _++_}
@@ -8,7 +8,7 @@ use mathlib.Core.Path.{_≡_, refl, ap, sym, _∙_}
 use native.Mathlib.Omega.{arith}
 use Rattle.machine.proofs.Claimed.{bound, nothing-changes}
 use Rattle.machine.specs.Claims.{answerOf, count, takes}
-use Rattle.machine.specs.Machine.{State, call, Step, step, work, run, after}
+use Rattle.machine.specs.Machine.{State, call, step, work, run, after}
 use Rattle.frame.proofs.Picks.{pick-true, pick-false}
 use Rattle.frame.specs.Bytes.{pick}
 use Rattle.population.specs.Places.{goodPopulation}
@@ -19,8 +19,8 @@ use Rattle.reader.specs.declared.outcome.Outcome.the-variants.{Answered, AtEnd,
 use Rattle.reader.specs.declared.state.Reader.{Reader}
 use Rattle.report.proofs.Reports.{ends-is, less-left}
 use Rattle.report.proofs.Together.{work-at-start}
-use Rattle.report.proofs.Whole.{Taken, all-taken, ends-by, none-waits, few-bytes}
-use Rattle.report.specs.Lines.{tooLongLine, unreadableLine, ends}
+use Rattle.report.proofs.Whole.{all-taken, ends-by, none-waits, few-bytes}
+use Rattle.report.specs.Lines.{tooLongLine, unreadableLine}
 use Rattle.report.specs.Report.{tooLong, placesOf, fresh}
 use Rattle.page.proofs.Accepting.{all-accepted}
 use Rattle.sheet.proofs.Balancing.{bench-after}
@@ -32,7 +32,6 @@ use Rattle.head.specs.Head.{headOf}
 use Rattle.sheet.specs.Itemised.{advanced, itemised, rowsFrom}
 use Rattle.foot.specs.Foot.{foot, endFor}
 use Rattle.sheet.specs.Sheet.{Standing, teller, begunOn}
-use Rattle.sheet.specs.declared.items.Items.{Items}
 use Rattle.text.specs.Counts.{refusedWord, countPart, refusedLine}
 use Rattle.text.specs.Digits.{widthBy, width, digits, decimal}
 use Rattle.text.specs.Telling.{textFrom}

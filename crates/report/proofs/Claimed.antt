@@ -6,7 +6,7 @@ use Rattle.report.proofs.NotRun as NotRun
 use Rattle.report.proofs.Sampled as Sampled
 use Rattle.report.proofs.Together as Together
 use Rattle.report.proofs.Whole as Whole
-use Rattle.report.specs.Claims.{SampleReport, SampleImage, EmptyImage, EmptyCrate, GoodFiles, TooLongReport, LongFiles, UnreadableReport, NoticeAlone, RunPrinted, FrameLines, DropLines, CountLines, CountsInOrder, RefusedLines, LineByLine, GoodCrateReport, BadCrateReport, CountsAreLines, BytesAddUp, PieceByPiece, ShortBuffer, NothingLeft, PiecesAreTheReport, EnoughPieces}
+use Rattle.report.specs.Claims.{SampleReport, SampleImage, EmptyImage, EmptyCrate, GoodFiles, TooLongReport, LongFiles, UnreadableReport, NoticeAlone, RunPrinted, FrameLines, DropLines, CountLines, RefusedLines, LineByLine, GoodCrateReport, BadCrateReport, CountsAreLines, BytesAddUp, PieceByPiece, ShortBuffer, NothingLeft, PiecesAreTheReport, EnoughPieces}
 
 pub sample-report : SampleReport
 sample-report = Sampled.sample-report
@@ -46,9 +46,6 @@ drop-lines = LinesOfCalls.drop-lines
 
 pub count-lines : CountLines
 count-lines = LinesOfCalls.count-lines
-
-pub counts-in-order : CountsInOrder
-counts-in-order = LinesOfCalls.counts-in-order
 
 pub refused-lines : RefusedLines
 refused-lines = LinesOfCalls.refused-lines

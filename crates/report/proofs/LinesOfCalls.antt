@@ -15,9 +15,8 @@ use Rattle.reader.specs.declared.outcome.Outcome.the-variants.{Answered, AtEnd,
 use Rattle.reader.specs.declared.tally.Tally.{Tally}
 use Rattle.frame.specs.Bytes.{pick, byte}
 use Rattle.frame.specs.declared.finding.Reason.the-variants.{NoHeader}
-use Rattle.report.specs.Claims.{FrameLines, DropLines, CountLines, CountsInOrder, RefusedLines}
+use Rattle.report.specs.Claims.{FrameLines, DropLines, CountLines, RefusedLines}
 use Rattle.report.specs.Lines.{lineFor, lineOf}
-use Rattle.text.proofs.Claimed as Text
 use Rattle.text.specs.Counts.{countsLine, refusedLine}
 
 -- an outcome that has a number; a line does not tell the reason of a drop
@@ -91,8 +90,3 @@ count-lines input s =
 pub refused-lines : RefusedLines
 unfolding lineOf
 refused-lines input s h = of-refused _ _ _ _ (step (call input) s .outcome) h
-
--- ---- the last line
-
-pub counts-in-order : CountsInOrder
-counts-in-order = Text.counts-in-order

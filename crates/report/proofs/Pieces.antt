@@ -2,8 +2,8 @@
 use Prim.Native.Nat.{ℕ, zero, suc, _+_, _-_, _≤_, _<_}
 use borrow.Author.Tests.{lt-ltb, le-ltb, eqb-true, eqb-false, eq-eqb, ne-eqb}
 use lib.Dec.{eqb}
-use lib.ListN.{length, drop, replicate}
-use lib.Seq.{sets-eq, length-sets}
+use lib.ListN.{length, replicate}
+use lib.Seq.{length-sets}
 use mathlib.Core.Bool.{Bool, true, false}
 use mathlib.Core.List.{List, [], _++_, append-assoc, append-nil}
 use mathlib.Core.Path.{_≡_, refl, ap, sym, _∙_}
@@ -14,7 +14,6 @@ use Rattle.frame.specs.Putting.{Put}
 use Rattle.frame.proofs.Picks.{pick-true, pick-false}
 use Rattle.frame.proofs.Tests.{either}
 use Rattle.frame.specs.Bytes.{pick}
-use Rattle.frame.specs.Frames.{written}
 use Rattle.report.proofs.Fitting.{over-is, no-room, piece-over, piece-more}
 use Rattle.report.proofs.Reports.{less-left, one-left}
 use Rattle.report.specs.Lines.{lineOf, ends}

@@ -24,7 +24,6 @@ use Rattle.report.specs.Pieces.{pieceOf, leftBy, overBy, pieces}
 use Rattle.report.specs.Report.{linesOf, reportFrom, lastState, tooLong, placesOf, fresh, reportOf, filesOf, noticeOf, printed}
 use Rattle.report.specs.declared.limits.Files.the-variants.{Fit}
 use Rattle.text.specs.Counts.{countsLine, refusedLine}
-use Rattle.text.specs.Digits.{decimal}
 
 -- ---- the report that document 01 prints
 
@@ -112,27 +111,11 @@ abbrev pub DropLines : Type 0
 DropLines =
     (input : List ℕ) (s : State) → answerOf (call input) s ≡ 3 → lineOf input s (step (call input) s) ≡ dropLine (byte input (s .reader .cursor))
 
--- "then the counts; LEFT is what remains at answer 1 or 2"
+-- "then the counts; LEFT is what remains at answer 1 or 2". What this line says, byte by byte and in which order, is `CountsInOrder` in text.
 abbrev pub CountLines : Type 0
 CountLines =
     (input : List ℕ) (s : State) → (answerOf (call input) s ≡ 1) ⊎ (answerOf (call input) s ≡ 2)
     → lineOf input s (step (call input) s) ≡ countsLine (s .reader .tally) (length input - s .reader .cursor)
-
--- "GOOD, ERROR, DROPPED with the five numbers in order, LEFT": `GOOD `, ` ERROR `, ` DROPPED `, a space before each further reason, ` LEFT ` and the
--- newline
-abbrev pub CountsInOrder : Type 0
-CountsInOrder =
-    (t : Tally) (left : ℕ)
-    → countsLine t left
-    ≡ ((71 ∷ 79 ∷ 79 ∷ 68 ∷ 32 ∷ []) ++ decimal (t .good))
-    ++ (((32 ∷ 69 ∷ 82 ∷ 82 ∷ 79 ∷ 82 ∷ 32 ∷ []) ++ decimal (t .error))
-    ++ (((32 ∷ 68 ∷ 82 ∷ 79 ∷ 80 ∷ 80 ∷ 69 ∷ 68 ∷ 32 ∷ []) ++ decimal (t .header))
-    ++ (((32 ∷ []) ++ decimal (t .kind))
-    ++ (((32 ∷ []) ++ decimal (t .long))
-    ++ (((32 ∷ []) ++ decimal (t .check))
-    ++ (((32 ∷ []) ++ decimal (t .end))
-    ++ (((32 ∷ 76 ∷ 69 ∷ 70 ∷ 84 ∷ 32 ∷ []) ++ decimal left)
-    ++ (10 ∷ []))))))))
 
 -- "A call answered 10 to 13 gives only `REFUSED` and the number."
 abbrev pub RefusedLines : Type 0

@@ -1,9 +1,8 @@
 -- The items of a run stand for its failures, each once.
-use Prim.Native.Nat.{ℕ, zero, suc, _+_, _-_, _≤_, _<_}
-use borrow.Author.Tests.{eqb-true, eqb-false, eq-eqb, ne-eqb, ltb-true}
+use Prim.Native.Nat.{ℕ, zero, suc, _+_, _-_, _≤_}
+use borrow.Author.Tests.{eqb-true, eq-eqb, ne-eqb, ltb-true}
 use lib.Dec.{eqb, ltb}
-use lib.ListN.{length}
-use mathlib.Core.Bool.{Bool, true, false, not, _&&_}
+use mathlib.Core.Bool.{true, _&&_}
 use mathlib.Core.List.{List, [], _∷_, _++_, append-assoc, append-nil}
 use mathlib.Core.Path.{_≡_, refl, ap, sym, _∙_}
 use native.Mathlib.Omega.{arith}
@@ -20,7 +19,7 @@ use Rattle.reader.specs.declared.tally.Tally.{Tally}
 use Rattle.rows.specs.declared.items.Item.{Item}
 use Rattle.sheet.specs.Claims.{EveryFailureOnce}
 use Rattle.sheet.specs.Itemised.{advanced, pending, closedBy, itemised, Fault, fault, faultIn, faults, droppedFrom, faultsOf, allFaults}
-use Rattle.sheet.specs.Items.{itemOf, itemsOf, noItems, failing, joins, grown, oneMore, itemsAfter, closes}
+use Rattle.sheet.specs.Items.{itemOf, itemsOf, failing, joins, grown, oneMore, itemsAfter, closes}
 use Rattle.sheet.specs.Sheet.{Standing, standingOf, itemsBy, teller}
 use Rattle.sheet.specs.declared.items.Failing.{Failing}
 use Rattle.sheet.specs.declared.items.Failing.the-variants.{Passed, Error, Drop}

@@ -3,12 +3,12 @@ use Prim.Native.Nat.{ℕ, zero, suc, _+_, _-_, _≤_, _<_}
 use borrow.Author.Tests.{eqb-true, eqb-false, eq-eqb, ne-eqb}
 use lib.Dec.{eqb}
 use lib.ListN.{length, length-append}
-use mathlib.Core.Bool.{Bool, true, false, not, _||_, true≢false}
+use mathlib.Core.Bool.{Bool, true, false, true≢false}
 use mathlib.Core.List.{List, [], _∷_, _++_, append-assoc, append-nil}
 use mathlib.Core.Path.{_≡_, refl, ap, sym, _∙_}
 use native.Mathlib.Omega.{arith}
-use Rattle.machine.specs.Machine.{State, call, Step, step, codeAt}
-use Rattle.frame.proofs.Picks.{by-test, pick-true, pick-false}
+use Rattle.machine.specs.Machine.{call, step, codeAt}
+use Rattle.frame.proofs.Picks.{pick-true, pick-false}
 use Rattle.frame.proofs.Tests.{either}
 use Rattle.foot.specs.Foot.{endFor}
 use Rattle.frame.specs.Bytes.{pick}
@@ -25,7 +25,7 @@ use Rattle.sheet.proofs.Tellings.{falls}
 use Rattle.sheet.specs.Claims.{goesOn, RowForEachItem, ItemsCounted}
 use Rattle.sheet.specs.Itemised.{advanced, pending, closedBy, itemised, rowsFrom}
 use Rattle.sheet.specs.Items.{itemOf, itemsOf, failing, joins, grown, oneMore, itemsAfter, closes}
-use Rattle.sheet.specs.Sheet.{Standing, standingOf, commandAt, lastRows, itemsBy, isTold, partFor, teller}
+use Rattle.sheet.specs.Sheet.{Standing, commandAt, lastRows, itemsBy, isTold, partFor, teller}
 use Rattle.sheet.specs.declared.items.Failing.{Failing}
 use Rattle.sheet.specs.declared.items.Failing.the-variants.{Passed, Error, Drop}
 use Rattle.sheet.specs.declared.items.Items.{Items}

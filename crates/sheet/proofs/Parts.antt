@@ -1,7 +1,6 @@
 -- The part of one call: the rows of the item that is told, and what ends the sheet.
 use Prim.Native.Nat.{ℕ, _+_, _-_, _≤_, _<_}
 use borrow.Author.Tests.{eq-eqb, ne-eqb}
-use lib.Dec.{eqb}
 use lib.ListN.{length, take, drop, length-drop, drop-of-length-le}
 use lib.Seq.{take-all, take-nil}
 use mathlib.Core.Bool.{Bool, true, false, _||_}
@@ -11,7 +10,7 @@ use native.Mathlib.Omega.{arith}
 use Rattle.machine.proofs.Listing.{room-step}
 use Rattle.machine.specs.Lent.{selectionIn}
 use Rattle.calls.specs.Calls.{stepOf}
-use Rattle.machine.specs.Machine.{State, stateOf, call, Step, step, stepUnless, codeAt, parametersAt}
+use Rattle.machine.specs.Machine.{stateOf, call, Step, step, stepUnless, codeAt, parametersAt}
 use Rattle.calls.specs.declared.calling.Called.{Called}
 use Rattle.foot.proofs.FootTexts.{ended-by}
 use Rattle.foot.specs.Foot.{endFor, Ended}

@@ -1,9 +1,9 @@
 -- What a row shows of a command, over the bytes of its frame.
 use Prim.Native.Nat.{ℕ, _+_}
-use lib.ListN.{length, drop}
+use lib.ListN.{length}
 use lib.Seq.{getD-append-add, drop-append-add, drop-append-seam}
-use mathlib.Core.List.{List, _∷_, _++_}
-use mathlib.Core.Path.{_≡_, refl, _∙_}
+use mathlib.Core.List.{List, _++_}
+use mathlib.Core.Path.{_≡_}
 use Rattle.frame.specs.Bytes.{byte, number, part}
 use Rattle.machine.specs.Machine.{codeAt, parametersAt}
 use Rattle.naming.specs.Commands.{commandText}

@@ -1,10 +1,10 @@
 -- The claims page of the sheet between its head and its foot: its items and its rows. Each statement is proved in proofs/Claimed.antt.
-use Prim.Native.Nat.{ℕ, zero, suc, _+_, _-_, _*_, _/_, _%_, _≤_, _<_}
+use Prim.Native.Nat.{ℕ, zero, suc, _+_, _-_, _≤_, _<_}
 use mathlib.Core.Bool.{Bool, true, false}
 use mathlib.Core.List.{List, [], _∷_, _++_}
 use mathlib.Core.Logic.{_⊎_}
 use mathlib.Core.Path.{_≡_}
-use lib.ListN.{length, drop, replicate}
+use lib.ListN.{length, replicate}
 use Rattle.foot.specs.Foot.{endFor}
 use Rattle.machine.specs.Claims.{Premises, withMemory}
 use Rattle.machine.specs.Machine.{State, call, step, work, codeAt}

@@ -1,7 +1,7 @@
 -- The sheet behind its head: a row for each item of the run, and a foot with the counts and the lines for the names.
 use Prim.Native.Nat.{ℕ}
-use mathlib.Core.Bool.{Bool, false, _||_}
-use mathlib.Core.List.{List, [], _∷_, _++_}
+use mathlib.Core.Bool.{Bool, _||_}
+use mathlib.Core.List.{List, [], _++_}
 use lib.Dec.{eqb}
 use lib.ListN.{drop}
 use Rattle.foot.specs.Foot.{endFor}

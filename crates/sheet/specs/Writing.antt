@@ -1,14 +1,13 @@
 -- What the functions that write the sheet promise.
 use Prim.Native.Nat.{ℕ, _+_, _≤_}
-use mathlib.Core.Bool.{Bool, false}
+use mathlib.Core.Bool.{false}
 use mathlib.Core.List.{List}
 use mathlib.Core.Path.{_≡_}
 use Rattle.machine.specs.Lent.{selectionIn}
-use Rattle.machine.specs.Machine.{stateOf, call, step}
+use Rattle.machine.specs.Machine.{stateOf}
 use Rattle.frame.specs.Putting.{Put}
 use Rattle.population.specs.declared.places.Place.{Place}
 use Rattle.reader.specs.Readers.{freshReader}
-use Rattle.report.specs.Lines.{ends}
 use Rattle.sheet.specs.Items.{noItems}
 use Rattle.sheet.specs.Sheet.{Standing, standingOf, teller}
 use Rattle.sheet.specs.declared.telling.Progress.{Progress}
