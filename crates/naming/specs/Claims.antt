@@ -1,8 +1,8 @@
 -- The claims page of the words of the sheet: how it calls each error answer and each command, as literal text. Each statement is proved in
 -- proofs/Claimed.antt.
-use Prim.Native.Nat.{ℕ, _≤_, _<_}
+use Prim.Native.Nat.{ℕ, _/_, _%_, _≤_, _<_}
 use mathlib.Core.Bool.{Bool, true, _&&_}
-use mathlib.Core.List.{List, [], _∷_, map}
+use mathlib.Core.List.{List, [], _∷_, _++_, map}
 use mathlib.Core.Path.{_≡_}
 use lib.Dec.{leb}
 use lib.ListN.{length}
@@ -10,6 +10,7 @@ use Rattle.naming.specs.Commands.{bankName, commandText}
 use Rattle.naming.specs.Errors.{errorText}
 use Rattle.tag.specs.declared.commands.Parsed.{Parsed}
 use Rattle.tag.specs.declared.commands.Parsed.the-variants.{Malformed, Inventory, Read, Write, Lock, Kill}
+use Rattle.text.specs.Digits.{hexByte, decimal}
 use Rattle.text.specs.Words.{ascii}
 
 -- "Words for every error byte and reason of README's tables."
@@ -53,6 +54,19 @@ pub record CommandTable (password : ℕ) : Type 0 where
   pub lock : commandText 0x82 (Lock password 0x203 0x080) ≡ ascii "82 Lock mask 0203 action 0080"
   pub kill : commandText 0x65 (Kill password) ≡ ascii "65 Kill"
   pub malformed : commandText 0x77 Malformed ≡ ascii "77"
+
+-- and so for all fields: nothing of them is left out, and nothing else is there
+pub record CommandWords (code password : ℕ) : Type 0 where
+  pub inventory : commandText code Inventory ≡ hexByte code ++ ascii " Inventory"
+  pub read : (bank pointer count : ℕ)
+      → commandText code (Read password bank pointer count) ≡ hexByte code ++ (ascii " Read " ++ (bankName bank ++ ascii " " ++ decimal pointer ++ ascii "+" ++ decimal count))
+  pub write : (bank pointer count : ℕ)
+      → commandText code (Write password bank pointer count) ≡ hexByte code ++ (ascii " Write " ++ (bankName bank ++ ascii " " ++ decimal pointer ++ ascii "+" ++ decimal count))
+  pub lock : (mask action : ℕ) → mask < 65536 → action < 65536
+      → commandText code (Lock password mask action)
+      ≡ hexByte code ++ (ascii " Lock mask " ++ (hexByte (mask / 256) ++ hexByte (mask % 256)) ++ ascii " action " ++ (hexByte (action / 256) ++ hexByte (action % 256)))
+  pub kill : commandText code (Kill password) ≡ hexByte code ++ ascii " Kill"
+  pub malformed : commandText code Malformed ≡ hexByte code
 
 -- "Never a password": commands that differ in their passwords alone are shown the same.
 pub record NoPassword (code p q : ℕ) : Type 0 where

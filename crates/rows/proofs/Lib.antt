@@ -1,6 +1,7 @@
 pub mod Boxes
 pub mod Claimed
 pub mod Fits
+pub mod InColumns
 pub mod Layers
 pub mod Plain
 pub mod Printed

@@ -1,9 +1,9 @@
 -- What is computed: whole rows, as literal text.
 use mathlib.Core.Path.{refl}
-use Rattle.frame.specs.Bytes.{pick, firstOf}
+use Rattle.frame.specs.Bytes.{pick, firstOf, part}
 use Rattle.naming.specs.Commands.{bankName, aimText, bitsText, lockText, fieldsText, commandText}
 use Rattle.naming.specs.Errors.{tagWords, errorWords, errorText}
-use Rattle.rows.specs.Claims.{ErrorRowExample, WideRowExample, MalformedRowExample, DropRowExample, OneByteExample, FiveReasonsExample, DroppedSum, WaitingRowExample, OneWaitsExample}
+use Rattle.rows.specs.Claims.{ErrorRowExample, WideRowExample, MalformedRowExample, DropRowExample, OneByteExample, FiveReasonsExample, DroppedSum, WaitingRowExample, OneWaitsExample, AllReasons}
 use Rattle.rows.specs.Columns.{boxedRow, plainRow, numberPlace, numbered, blankRows}
 use Rattle.rows.specs.Rows.{rangeText, bytesText, errorRow, isSome, reasonsIn, cellPlace, cellText, withCell, withReasons, droppedIn, dropRows, itemRows, waitingRow}
 use Rattle.text.specs.Digits.{hexDigit, hexByte, widthBy, width, digits, decimal}
@@ -49,3 +49,7 @@ waiting-row = refl
 pub one-waits : OneWaitsExample
 unfolding opened
 one-waits = refl
+
+pub all-reasons : AllReasons
+unfolding opened part
+all-reasons = refl

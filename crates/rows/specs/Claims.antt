@@ -1,12 +1,13 @@
 -- The claims page of the rows: what stands in each column, as literal text. Each statement is proved in proofs/Claimed.antt.
-use Prim.Native.Nat.{ℕ, zero, suc, _+_, _%_, _≤_, _<_}
+use Prim.Native.Nat.{ℕ, zero, suc, _+_, _-_, _*_, _/_, _%_, _≤_, _<_}
 use mathlib.Core.Bool.{Bool, true, _&&_, _||_}
 use mathlib.Core.List.{List, [], _∷_, _++_, map}
 use mathlib.Core.Path.{_≡_}
 use lib.Dec.{eqb, leb}
-use lib.ListN.{length}
-use Rattle.frame.specs.Bytes.{pick, byte}
+use lib.ListN.{length, drop, replicate}
+use Rattle.frame.specs.Bytes.{pick, byte, part}
 use Rattle.naming.specs.Commands.{commandText}
+use Rattle.naming.specs.Errors.{errorText}
 use Rattle.reader.specs.declared.tally.Tally.{Tally}
 use Rattle.rows.specs.Rows.{rangeText, bytesText, cellText, droppedIn, errorRow, dropRows, itemRows, waitingRow}
 use Rattle.rows.specs.declared.items.Item.{Item}
@@ -73,6 +74,92 @@ WaitingRowExample = waitingRow 64 69 ≡ ascii "   -   64-68        5 bytes wait
 
 abbrev pub OneWaitsExample : Type 0
 OneWaitsExample = waitingRow 64 65 ≡ ascii "   -   64           1 byte waiting                not a whole frame                       [ ]   [ ]" ++ (10 ∷ [])
+
+-- ---- every row
+
+-- an item of error 0 is of dropped bytes, of which no command is shown; any other is an error answer
+pub record ItemRows (n : ℕ) (item : Item) (code : ℕ) (parsed : Parsed) : Type 0 where
+  pub drops : item .error ≡ 0 → itemRows n item code parsed ≡ dropRows n (item .first) (item .last) (item .drops)
+  pub answer : (item .error ≡ 0 → ⊥) → itemRows n item code parsed ≡ errorRow n (item .first) code parsed (item .error)
+
+-- `41`, or `57-63` where there are more; `1 byte`, or `7 bytes`; `1 wrong check`
+pub record Texts : Type 0 where
+  pub one-place : (first : ℕ) → rangeText first first ≡ decimal first
+  pub more-places : (first last : ℕ) → (first ≡ last → ⊥) → rangeText first last ≡ decimal first ++ ascii "-" ++ decimal last
+  pub one-byte : bytesText 1 ≡ ascii "1 byte"
+  pub more-bytes : (n : ℕ) → (n ≡ 1 → ⊥) → bytesText n ≡ decimal n ++ ascii " bytes"
+  pub reason : (n : ℕ) (word : List ℕ) → cellText n word ≡ decimal n ++ ascii " " ++ word
+
+-- this text stands whole from this column on
+abbrev pub Stands : List ℕ → ℕ → List ℕ → Type 0
+Stands text column row = part row column (length text) ≡ text
+
+-- with item numbers below 10,000 and positions below 32,768: the number up to the fourth column, the place, the command and the result
+pub record ErrorColumns (n first code e : ℕ) (parsed : Parsed) : Type 0 where
+  pub number : Stands (decimal n) (4 - length (decimal n)) (errorRow n first code parsed e)
+  pub place : Stands (decimal first) 7 (errorRow n first code parsed e)
+  pub command : Stands (commandText code parsed) 20 (errorRow n first code parsed e)
+  pub result : Stands (errorText e) 50 (errorRow n first code parsed e)
+
+pub record DropColumns (n first last : ℕ) (t : Tally) : Type 0 where
+  pub number : Stands (decimal n) (4 - length (decimal n)) (dropRows n first last t)
+  pub place : Stands (rangeText first last) 7 (dropRows n first last t)
+  pub dropped : Stands (bytesText (droppedIn t) ++ ascii " dropped") 20 (dropRows n first last t)
+
+pub record WaitingColumns (first behind : ℕ) : Type 0 where
+  pub place : Stands (rangeText first (behind - 1)) 7 (waitingRow first behind)
+  pub waits : Stands (bytesText (behind - first) ++ ascii " waiting") 20 (waitingRow first behind)
+
+pub record InColumns : Type 0 where
+  pub error : (n first code e : ℕ) (parsed : Parsed) → n < 10000 → first < 32768 → length (commandText code parsed) ≤ 29 → ErrorColumns n first code e parsed
+  pub drops : (n first last : ℕ) (t : Tally) → n < 10000 → first < 32768 → last < 32768 → droppedIn t < 32769 → DropColumns n first last t
+  pub waiting : (first behind : ℕ) → first < 32768 → behind ≤ 32768 → WaitingColumns first behind
+
+-- The result of dropped bytes, for each of the 31 sets of reasons: header 1, type 2, length 4, check 8 and end 16 times, or not at all. Each reason of the set is
+-- shown with its number, two to a row, those of a false header first.
+abbrev pub reasonsOf : ℕ → Tally
+reasonsOf set =
+    record {
+      good = 64;
+      error = 32;
+      header = set % 2;
+      kind = 2 * (set / 2 % 2);
+      long = 4 * (set / 4 % 2);
+      check = 8 * (set / 8 % 2);
+      end = 16 * (set / 16 % 2);
+    }
+
+abbrev pub shownFor : ℕ → List ℕ → List (List ℕ)
+shownFor zero word = []
+shownFor (suc n) word = (decimal (suc n) ++ ascii " " ++ word) ∷ []
+
+abbrev pub shownReasons : Tally → List (List ℕ)
+shownReasons t =
+    shownFor (t .kind) (ascii "wrong type") ++ shownFor (t .long) (ascii "too long") ++ shownFor (t .check) (ascii "wrong check") ++ shownFor (t .end) (ascii "wrong end")
+    ++ shownFor (t .header) (ascii "no header")
+
+abbrev pub filled : ℕ → List ℕ → List ℕ
+filled columns text = text ++ replicate (columns - length text) 32
+
+abbrev pub twoToARow : List (List ℕ) → List (List ℕ)
+twoToARow [] = []
+twoToARow (one ∷ []) = filled 38 one ∷ []
+twoToARow (one ∷ two ∷ more) = filled 38 (filled 18 one ++ two) ∷ twoToARow more
+
+-- columns 50 to 87 of each row
+abbrev pub resultsIn : ℕ → List ℕ → List (List ℕ)
+resultsIn zero text = []
+resultsIn (suc rows) text = part text 50 38 ∷ resultsIn rows (drop 100 text)
+
+abbrev pub resultsOf : ℕ → List (List ℕ)
+resultsOf set = resultsIn (length (dropRows 1 0 30 (reasonsOf set)) / 100) (dropRows 1 0 30 (reasonsOf set))
+
+abbrev pub downFrom : ℕ → List ℕ
+downFrom zero = []
+downFrom (suc n) = suc n ∷ downFrom n
+
+abbrev pub AllReasons : Type 0
+AllReasons = map resultsOf (downFrom 31) ≡ map (λ set. twoToARow (shownReasons (reasonsOf set))) (downFrom 31)
 
 -- ---- "fixed width, 100 columns at most"
 
