@@ -3,13 +3,16 @@ use Rattle.page.proofs.Instances as Instances
 use Rattle.page.proofs.Pages as Pages
 use Rattle.page.proofs.Sampled as Sampled
 use Rattle.page.proofs.Sheets as Sheets
-use Rattle.page.specs.Claims.{GoodCrateSheet, NoSheet, PagePrinted, SamePage, SamePageCanBeMet, SampleSheet, FailingSheet}
+use Rattle.page.specs.Claims.{GoodCrateSheet, NoSheet, ReadableSheet, PagePrinted, SamePage, SamePageCanBeMet, SampleSheet, FailingSheet}
 
 pub good-crate-sheet : GoodCrateSheet
 good-crate-sheet = Sheets.good-crate-sheet
 
 pub no-sheet : NoSheet
 no-sheet = Sheets.no-sheet
+
+pub readable-sheet : ReadableSheet
+readable-sheet = Pages.readable-sheet
 
 pub page-printed : PagePrinted
 page-printed = Pages.page-printed

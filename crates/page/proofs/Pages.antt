@@ -17,7 +17,7 @@ use Rattle.report.specs.declared.limits.Files.{Files}
 use Rattle.report.specs.declared.limits.Files.the-variants.{Unreadable, TooLong, Fit}
 use Rattle.sheet.proofs.Claimed.{same-sheet, pieces-are-the-text}
 use Rattle.page.proofs.Sheets.{sheet-is, bad-crate, too-long}
-use Rattle.page.specs.Claims.{SamePage, PagePrinted}
+use Rattle.page.specs.Claims.{ReadableSheet, SamePage, PagePrinted}
 use Rattle.sheet.specs.Items.{noItems}
 use Rattle.page.specs.Page.{sheetOf, printedSheet, runLines, firstLines, beginning, rowsFollow, hasRows}
 use Rattle.sheet.specs.Sheet.{teller, begunOn}
@@ -81,6 +81,10 @@ page-printed readable isCrate commands memory sizes rooms places laid over =
     (λ short.
     fit-page isCrate commands memory sizes rooms readable places all-read short (laid (or-neither (ltb 32768 (length commands)) (anyLong sizes) short .1)) over))
     (unreadable-page isCrate commands memory sizes rooms readable places)
+
+pub readable-sheet : ReadableSheet
+unfolding printedSheet
+readable-sheet isCrate commands memory sizes = pick-true _ _
 
 -- ---- the passwords
 

@@ -54,6 +54,10 @@ NoSheet =
 
 -- ---- what is printed
 
+-- files that were read to their ends give the sheet, and no other text
+abbrev pub ReadableSheet : Type 0
+ReadableSheet = (isCrate : Bool) (commands memory sizes : List ℕ) → printedSheet true isCrate commands memory sizes ≡ sheetOf isCrate commands memory sizes
+
 -- What a program prints that begins a page and then goes on piece by piece where rows follow, until it is over: the text of the files, whole. Of sizes among which one
 -- is too long the places are not asked.
 abbrev pub PagePrinted : Type 0
@@ -106,28 +110,33 @@ SampleSheet =
     ++ (ascii "Line builder ______________________   Inspector ______________________   Date ____________" ++ (10 ∷ []))
     ++ (ascii "END OF SHEET" ++ (10 ∷ []))
 
--- A Read behind the last word of its bank, the same frame with a wrong check, and the first two bytes of a third: one error answer, one item of dropped bytes, and
--- what waits.
+-- An inventory, a Read behind the last word of its bank, the same frame with a wrong check, a code that is not listed, a Kill with another password, and the first two
+-- bytes of a frame.
 abbrev pub failingCommands : List ℕ
 failingCommands =
-    0xBB ∷ 0x00 ∷ 0x39 ∷ 0x00 ∷ 0x09 ∷ 0x00 ∷ 0x00 ∷ 0xFF ∷ 0xFF ∷ 0x03 ∷ 0x00 ∷ 0x0F ∷ 0x00 ∷ 0x02 ∷ 0x54 ∷ 0x7E
-    ∷ 0xBB ∷ 0x00 ∷ 0x39 ∷ 0x00 ∷ 0x09 ∷ 0x00 ∷ 0x00 ∷ 0xFF ∷ 0xFF ∷ 0x03 ∷ 0x00 ∷ 0x0F ∷ 0x00 ∷ 0x02 ∷ 0x55 ∷ 0x7E
-    ∷ 0xBB ∷ 0x00 ∷ []
+    (0xBB ∷ 0x00 ∷ 0x22 ∷ 0x00 ∷ 0x00 ∷ 0x22 ∷ 0x7E ∷ [])
+    ++ (0xBB ∷ 0x00 ∷ 0x39 ∷ 0x00 ∷ 0x09 ∷ 0x00 ∷ 0x00 ∷ 0xFF ∷ 0xFF ∷ 0x03 ∷ 0x00 ∷ 0x0F ∷ 0x00 ∷ 0x02 ∷ 0x54 ∷ 0x7E ∷ [])
+    ++ (0xBB ∷ 0x00 ∷ 0x39 ∷ 0x00 ∷ 0x09 ∷ 0x00 ∷ 0x00 ∷ 0xFF ∷ 0xFF ∷ 0x03 ∷ 0x00 ∷ 0x0F ∷ 0x00 ∷ 0x02 ∷ 0x55 ∷ 0x7E ∷ [])
+    ++ (0xBB ∷ 0x00 ∷ 0x77 ∷ 0x00 ∷ 0x00 ∷ 0x77 ∷ 0x7E ∷ [])
+    ++ (0xBB ∷ 0x00 ∷ 0x65 ∷ 0x00 ∷ 0x04 ∷ 0x00 ∷ 0x00 ∷ 0x00 ∷ 0x01 ∷ 0x6A ∷ 0x7E ∷ [])
+    ++ (0xBB ∷ 0x00 ∷ [])
 
 abbrev pub FailingSheet : Type 0
 FailingSheet =
     sheetOf false failingCommands sample (86 ∷ [])
     ≡ (ascii "POLDRISK FAILURE SHEET" ++ (10 ∷ []))
-    ++ (ascii "commands.bin      34 bytes, 1 command taken" ++ (10 ∷ []))
+    ++ (ascii "commands.bin      59 bytes, 4 commands taken" ++ (10 ∷ []))
     ++ (ascii "tag.img           86 bytes" ++ (10 ∷ []))
     ++ ((10 ∷ []))
     ++ (ascii "ITEM   BYTE         COMMAND                       RESULT                                MEANT FAULT" ++ (10 ∷ []))
-    ++ (ascii "   1   0            39 Read User 15+2             A3 the bank has no such words           [ ]   [ ]" ++ (10 ∷ []))
-    ++ (ascii "   2   16-31        16 bytes dropped              1 wrong check     15 no header          [ ]   [ ]" ++ (10 ∷ []))
-    ++ (ascii "   -   32-33        2 bytes waiting               not a whole frame                       [ ]   [ ]" ++ (10 ∷ []))
+    ++ (ascii "   1   7            39 Read User 15+2             A3 the bank has no such words           [ ]   [ ]" ++ (10 ∷ []))
+    ++ (ascii "   2   23-38        16 bytes dropped              1 wrong check     15 no header          [ ]   [ ]" ++ (10 ∷ []))
+    ++ (ascii "   3   39           77                            17 code not listed, or a wrong field    [ ]   [ ]" ++ (10 ∷ []))
+    ++ (ascii "   4   46           65 Kill                       12 no tag, or another kill password     [ ]   [ ]" ++ (10 ∷ []))
+    ++ (ascii "   -   57-58        2 bytes waiting               not a whole frame                       [ ]   [ ]" ++ (10 ∷ []))
     ++ ((10 ∷ []))
-    ++ (ascii "GOOD 0 ERROR 1 DROPPED 15 0 0 1 0 LEFT 2" ++ (10 ∷ []))
-    ++ (ascii "FAILURES 17 = ERROR 1 + DROPPED 16, ITEMS 2" ++ (10 ∷ []))
+    ++ (ascii "GOOD 1 ERROR 3 DROPPED 15 0 0 1 0 LEFT 2" ++ (10 ∷ []))
+    ++ (ascii "FAILURES 19 = ERROR 3 + DROPPED 16, ITEMS 4" ++ (10 ∷ []))
     ++ ((10 ∷ []))
     ++ (ascii "Line builder ______________________   Inspector ______________________   Date ____________" ++ (10 ∷ []))
     ++ (ascii "END OF SHEET" ++ (10 ∷ []))

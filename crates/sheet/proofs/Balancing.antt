@@ -20,8 +20,8 @@ use Rattle.report.specs.Claims.{isDrop}
 use Rattle.report.specs.Report.{fresh}
 use Rattle.rows.specs.Rows.{droppedIn}
 use Rattle.sheet.proofs.Itemising.{every-failure-once}
-use Rattle.sheet.specs.Claims.{BalanceHolds}
-use Rattle.sheet.specs.Itemised.{advanced, faultIn, faults}
+use Rattle.sheet.specs.Claims.{faultIn, faults, BalanceHolds}
+use Rattle.sheet.specs.Itemised.{advanced}
 use Rattle.sheet.specs.Sheet.{Standing, teller, begunOn}
 
 -- the bench of the sheet goes through the calls as any bench does

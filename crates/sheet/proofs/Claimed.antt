@@ -11,7 +11,7 @@ use Rattle.sheet.proofs.Secrets as Secrets
 use Rattle.sheet.proofs.Shown as Shown
 use Rattle.sheet.proofs.Summing as Summing
 use Rattle.sheet.proofs.Together as Together
-use Rattle.sheet.specs.Claims.{EveryFailureOnce, RowForEachItem, ItemsCounted, BalanceHolds, ReasonsSummed, BytesOfDrops, Rising, DropsTogether, CommandsShown, SameSheet, PieceByPiece, PiecesAreTheText, EnoughPieces}
+use Rattle.sheet.specs.Claims.{EveryFailureOnce, RowForEachItem, RowsInTurn, BegunThere, ItemsCounted, BalanceHolds, ReasonsSummed, BytesOfDrops, Rising, DropsTogether, CommandsShown, SameSheet, PieceByPiece, PiecesAreTheText, EnoughPieces}
 
 -- ---- the items
 
@@ -20,6 +20,12 @@ every-failure-once = Itemising.every-failure-once
 
 pub row-for-each-item : RowForEachItem
 row-for-each-item = Numbered.row-for-each-item
+
+pub rows-in-turn : RowsInTurn
+rows-in-turn = Shown.rows-in-turn
+
+pub begun-there : BegunThere
+begun-there = Shown.begun-there
 
 pub items-counted : ItemsCounted
 items-counted = Numbered.items-counted

@@ -17,8 +17,8 @@ use Rattle.reader.specs.declared.outcome.Outcome.{Outcome}
 use Rattle.reader.specs.declared.outcome.Outcome.the-variants.{Answered, AtEnd, Incomplete, Dropped, PastEnd, BadImage, ShortOutput, FullTally, FullList}
 use Rattle.reader.specs.declared.tally.Tally.{Tally}
 use Rattle.rows.specs.declared.items.Item.{Item}
-use Rattle.sheet.specs.Claims.{EveryFailureOnce}
-use Rattle.sheet.specs.Itemised.{advanced, pending, closedBy, itemised, Fault, fault, faultIn, faults, droppedFrom, faultsOf, allFaults}
+use Rattle.sheet.specs.Claims.{Fault, fault, faultIn, faults, droppedFrom, faultsOf, allFaults, EveryFailureOnce}
+use Rattle.sheet.specs.Itemised.{advanced, pending, closedBy, itemised}
 use Rattle.sheet.specs.Items.{itemOf, itemsOf, failing, joins, grown, oneMore, itemsAfter, closes}
 use Rattle.sheet.specs.Sheet.{Standing, standingOf, itemsBy, teller}
 use Rattle.sheet.specs.declared.items.Failing.{Failing}

@@ -1,14 +1,17 @@
--- What a row shows of a command, over the bytes of its frame.
+-- What a row shows of a command, over the bytes of its frame; rows one behind the other; and where the sheet begins.
 use Prim.Native.Nat.{ℕ, _+_}
 use lib.ListN.{length}
 use lib.Seq.{getD-append-add, drop-append-add, drop-append-seam}
 use mathlib.Core.List.{List, _++_}
-use mathlib.Core.Path.{_≡_}
-use Rattle.frame.specs.Bytes.{byte, number, part}
+use mathlib.Core.Path.{_≡_, refl}
+use Rattle.frame.specs.Bytes.{pick, byte, number, part}
+use Rattle.machine.specs.Lent.{selectionIn}
 use Rattle.machine.specs.Machine.{codeAt, parametersAt}
 use Rattle.naming.specs.Commands.{commandText}
+use Rattle.report.specs.Report.{fresh}
 use Rattle.sheet.proofs.Computed.{opened}
-use Rattle.sheet.specs.Claims.{shownAt, CommandsShown}
+use Rattle.sheet.specs.Claims.{shownAt, CommandsShown, RowsInTurn, BegunThere}
+use Rattle.sheet.specs.Itemised.{rowsFrom}
 use Rattle.sheet.specs.Sheet.{commandWith, commandAt}
 use Rattle.tag.specs.Commands.{parse}
 
@@ -37,3 +40,11 @@ commands-shown before behind p q r s d e =
       one-parameter = at-the-frame before _;
       set-select = at-the-frame before _;
     }
+
+pub rows-in-turn : RowsInTurn
+unfolding rowsFrom
+rows-in-turn n input = record { none = refl; next = λ item items. refl }
+
+pub begun-there : BegunThere
+unfolding fresh selectionIn pick
+begun-there memory sizes = refl

@@ -1,26 +1,64 @@
 -- The claims page of the sheet between its head and its foot: its items and its rows. Each statement is proved in proofs/Claimed.antt.
 use Prim.Native.Nat.{ℕ, zero, suc, _+_, _-_, _≤_, _<_}
-use mathlib.Core.Bool.{Bool, true, false}
+use mathlib.Core.Bool.{Bool, true, false, _&&_}
 use mathlib.Core.List.{List, [], _∷_, _++_}
 use mathlib.Core.Logic.{_⊎_}
 use mathlib.Core.Path.{_≡_}
+use lib.Dec.{eqb}
 use lib.ListN.{length, replicate}
 use Rattle.foot.specs.Foot.{endFor}
 use Rattle.machine.specs.Claims.{Premises, withMemory}
-use Rattle.machine.specs.Machine.{State, call, step, work, codeAt}
+use Rattle.machine.specs.Machine.{State, call, Step, step, work, codeAt}
+use Rattle.frame.specs.Bytes.{pick, byte}
 use Rattle.frame.specs.declared.finding.Reason.{Reason}
 use Rattle.frame.specs.declared.finding.Reason.the-variants.{NoHeader, WrongType, TooLong, WrongCheck, WrongEnd}
+use Rattle.reader.specs.Outcomes.{numberOf}
 use Rattle.reader.specs.Tallies.{freshTally}
 use Rattle.reader.specs.declared.tally.Tally.{Tally}
 use Rattle.naming.specs.Commands.{commandText}
 use Rattle.report.specs.Lines.{ends}
-use Rattle.rows.specs.Rows.{droppedIn}
+use Rattle.report.specs.Report.{placesOf}
+use Rattle.rows.specs.Rows.{droppedIn, itemRows}
 use Rattle.rows.specs.declared.items.Item.{Item}
-use Rattle.sheet.specs.Itemised.{advanced, itemised, rowsFrom, faults, allFaults}
+use Rattle.sheet.specs.Itemised.{advanced, itemised, rowsFrom}
 use Rattle.sheet.specs.Sheet.{Standing, standingOf, commandAt, teller, begunOn}
+use Rattle.sheet.specs.Writing.{begun, standingAt}
 use Rattle.sheet.specs.declared.items.Items.{Items}
 use Rattle.text.specs.Telling.{textFrom, fill, pieces}
 use Rattle.text.specs.Words.{ascii}
+
+-- ---- the failures of a run
+
+-- where it stands, and the byte of the error answer, 0 for a dropped byte
+pub record Fault : Type 0 where
+  pub place : ℕ
+  pub error : ℕ
+
+abbrev pub fault : ℕ → ℕ → Fault
+fault place error = record { place = place; error = error }
+
+-- "An error answer is one with code FF", and answer 3 is a byte dropped
+unfoldable pub faultIn : State → Step → List Fault
+faultIn s x =
+    pick (eqb (numberOf (x .outcome)) 3) (fault (s .reader .cursor) 0 ∷ [])
+    (pick (eqb (numberOf (x .outcome)) 0 && eqb (byte (x .next .output) 2) 0xFF) (fault (s .reader .cursor) (byte (x .next .output) 5) ∷ []) [])
+
+-- those of k calls, in their order
+unfoldable pub faults : ℕ → List ℕ → State → List Fault
+faults zero input s = []
+faults (suc k) input s = faultIn s (step (call input) s) ++ faults k input (step (call input) s .next)
+
+-- those that an item stands for: one error answer, or every byte from its first to its last
+unfoldable pub droppedFrom : ℕ → ℕ → List Fault
+droppedFrom place zero = []
+droppedFrom place (suc n) = fault place 0 ∷ droppedFrom (suc place) n
+
+unfoldable pub faultsOf : Item → List Fault
+faultsOf item = pick (eqb (item .error) 0) (droppedFrom (item .first) (item .last + 1 - item .first)) (fault (item .first) (item .error) ∷ [])
+
+unfoldable pub allFaults : List Item → List Fault
+allFaults [] = []
+allFaults (item ∷ items) = faultsOf item ++ allFaults items
 
 -- ---- the items
 
@@ -45,6 +83,19 @@ RowForEachItem =
     ≡ rowsFrom 1 input (itemised k input s)
     ++ endFor input (step (call input) (advanced k input s .bench) .next .reader) (advanced k input s .items .count)
     (step (call input) (advanced k input s .bench) .outcome)
+
+-- each row has the item's number, and the code and the command that stand in the input where it begins
+pub record RowsOf (n : ℕ) (input : List ℕ) : Type 0 where
+  pub none : rowsFrom n input [] ≡ []
+  pub next : (item : Item) (items : List Item)
+      → rowsFrom n input (item ∷ items) ≡ itemRows n item (codeAt input (item .first)) (commandAt input (item .first)) ++ rowsFrom (n + 1) input items
+
+abbrev pub RowsInTurn : Type 0
+RowsInTurn = (n : ℕ) (input : List ℕ) → RowsOf n input
+
+-- where the functions that write it begin is where the run does: cursor 0, no item, nothing to hand out, an empty selection
+abbrev pub BegunThere : Type 0
+BegunThere = (memory sizes : List ℕ) → standingAt memory (placesOf sizes) (length sizes) (replicate 39 0) (replicate 136 0) begun ≡ begunOn memory sizes
 
 -- the number that the foot tells is that of the rows
 abbrev pub ItemsCounted : Type 0

@@ -1,11 +1,9 @@
--- The items of a run, one behind the other, and the failures that each of them stands for.
-use Prim.Native.Nat.{ℕ, zero, suc, _+_, _-_}
-use mathlib.Core.Bool.{_&&_}
+-- The items of a run, one behind the other, and their rows.
+use Prim.Native.Nat.{ℕ, zero, suc, _+_}
 use mathlib.Core.List.{List, [], _∷_, _++_}
 use lib.Dec.{eqb}
-use Rattle.machine.specs.Machine.{State, call, Step, step, codeAt}
-use Rattle.frame.specs.Bytes.{pick, byte}
-use Rattle.reader.specs.Outcomes.{numberOf}
+use Rattle.machine.specs.Machine.{call, step, codeAt}
+use Rattle.frame.specs.Bytes.{pick}
 use Rattle.rows.specs.Rows.{itemRows}
 use Rattle.rows.specs.declared.items.Item.{Item}
 use Rattle.sheet.specs.Items.{failing, closes}
@@ -36,36 +34,3 @@ itemised k input s = closedBy k input s ++ pending (advanced k input s .items)
 unfoldable pub rowsFrom : ℕ → List ℕ → List Item → List ℕ
 rowsFrom n input [] = []
 rowsFrom n input (item ∷ items) = itemRows n item (codeAt input (item .first)) (commandAt input (item .first)) ++ rowsFrom (n + 1) input items
-
--- ---- failures
-
--- where it stands, and the byte of the error answer, 0 for a dropped byte
-pub record Fault : Type 0 where
-  pub place : ℕ
-  pub error : ℕ
-
-abbrev pub fault : ℕ → ℕ → Fault
-fault place error = record { place = place; error = error }
-
--- "An error answer is one with code FF", and answer 3 is a byte dropped
-unfoldable pub faultIn : State → Step → List Fault
-faultIn s x =
-    pick (eqb (numberOf (x .outcome)) 3) (fault (s .reader .cursor) 0 ∷ [])
-    (pick (eqb (numberOf (x .outcome)) 0 && eqb (byte (x .next .output) 2) 0xFF) (fault (s .reader .cursor) (byte (x .next .output) 5) ∷ []) [])
-
--- those of k calls, in their order
-unfoldable pub faults : ℕ → List ℕ → State → List Fault
-faults zero input s = []
-faults (suc k) input s = faultIn s (step (call input) s) ++ faults k input (step (call input) s .next)
-
--- those that an item stands for: one error answer, or every byte from its first to its last
-unfoldable pub droppedFrom : ℕ → ℕ → List Fault
-droppedFrom place zero = []
-droppedFrom place (suc n) = fault place 0 ∷ droppedFrom (suc place) n
-
-unfoldable pub faultsOf : Item → List Fault
-faultsOf item = pick (eqb (item .error) 0) (droppedFrom (item .first) (item .last + 1 - item .first)) (fault (item .first) (item .error) ∷ [])
-
-unfoldable pub allFaults : List Item → List Fault
-allFaults [] = []
-allFaults (item ∷ items) = faultsOf item ++ allFaults items
