@@ -2,7 +2,7 @@
 use Prim.Native.Nat.{ℕ, _≤_, _<_}
 use borrow.Author.Tests.{le-leb, not-true, not-false}
 use lib.ListN.{length}
-use mathlib.Core.Bool.{Bool, true, false, not}
+use mathlib.Core.Bool.{Bool, true, false, not, true≢false}
 use mathlib.Core.List.{List}
 use mathlib.Core.Path.{_≡_, refl, sym, _∙_}
 use native.Mathlib.Omega.{arith}
@@ -13,7 +13,8 @@ use Rattle.population.proofs.GoodPopulations.{population-facts}
 use Rattle.population.specs.Places.{goodPopulation}
 use Rattle.population.specs.declared.places.Place.{Place}
 use Rattle.report.specs.Lines.{tooLongLine, unreadableLine}
-use Rattle.report.specs.Report.{filesOf, noticeOf}
+use Rattle.report.proofs.NotRun.{fit-short}
+use Rattle.report.specs.Report.{anyLong, filesOf, noticeOf}
 use Rattle.report.specs.Writing.{Told}
 use Rattle.report.specs.declared.limits.Files.{Files}
 use Rattle.report.specs.declared.limits.Files.the-variants.{Unreadable, TooLong, Fit}
@@ -100,3 +101,16 @@ module _ (readable isCrate : Bool) (input memory sizes : List ℕ) (places : Lis
   pub run-page : files ≡ Fit → Begins (runLines isCrate input memory sizes places) (goodPopulation memory (length sizes) places) before after r → Page
   unfolding firstLines rowsFollow
   run-page e begins = known-page Fit e begins
+
+-- ---- where rows follow no file is too long
+
+by-files : (files : Files) (good : Bool) → rowsFollow files good ≡ true → files ≡ Fit
+unfolding rowsFollow
+by-files Unreadable good h = absurd (true≢false (sym h))
+by-files TooLong good h = absurd (true≢false (sym h))
+by-files Fit good h = refl
+
+pub rows-short : (readable : Bool) (input memory sizes : List ℕ) (places : List Place) → hasRows readable input memory sizes places ≡ true → anyLong sizes ≡ false
+unfolding hasRows
+rows-short readable input memory sizes places h =
+    fit-short readable (length input) sizes (by-files (filesOf readable (length input) sizes) (goodPopulation memory (length sizes) places) h)

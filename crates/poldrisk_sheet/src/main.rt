@@ -8,7 +8,10 @@ use population::places::Place;
 use sheet::telling::Progress;
 use sheet::telling::write;
 ghost use Prim.Native.Nat.{_≤_};
-ghost use lib.ListN.{length};
+ghost use lib.ListN.{length, replicate};
+ghost use Rattle.sheet.specs.Itemised.{LeftBySome};
+ghost use Rattle.sheet.specs.Sheet.{begunOn};
+ghost use Rattle.sheet.specs.Writing.{begun, standingAt};
 
 // Piece by piece. Where standard output refuses some of the sheet nothing more is written, so that no sheet ends with its last line and lacks a row.
 fn print_rows(
@@ -20,6 +23,9 @@ fn print_rows(
     tags: usize,
 ) -> bool
     requires { ⌜ 1024 ≤ length (now buffer) ⌝ }
+    ensures { λ _. ⌜
+        LeftBySome (now (commands .entry)) (standingAt (now (memory .entry)) places tags (replicate 39 0) (now (output .entry)) begun) (now (memory .exit))
+        ⌝ }
 {
     let mut selection = [0u8; 39];
     let mut progress = Progress::start();
@@ -43,14 +49,10 @@ fn print_rows(
     true
 }
 
-// The page of these files: what it begins with, and where there is a sheet its rows and its foot.
-fn print(
-    numbered: bool,
-    readable: bool,
-    commands: &[u8],
-    memory: &mut [u8],
-    sizes: &[u64],
-) -> bool {
+// The page of these files: what it begins with, and where there is a sheet its rows and its foot. The calls that are made are those of the run on these files.
+fn print(numbered: bool, readable: bool, commands: &[u8], memory: &mut [u8], sizes: &[u64]) -> bool
+    ensures { λ _. ⌜ LeftBySome (now (commands .entry)) (begunOn (now (memory .entry)) (now (sizes .entry))) (now (memory .exit)) ⌝ }
+{
     let mut buffer = io::large_buffer();
     let places = places_of(sizes);
     let begun = begin(

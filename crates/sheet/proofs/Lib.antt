@@ -1,3 +1,4 @@
+pub mod Advancing
 pub mod Balancing
 pub mod Calling
 pub mod Claimed

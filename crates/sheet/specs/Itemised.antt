@@ -1,6 +1,7 @@
 -- The items of a run, one behind the other, and their rows.
 use Prim.Native.Nat.{ℕ, zero, suc, _+_}
 use mathlib.Core.List.{List, [], _∷_, _++_}
+use mathlib.Core.Path.{_≡_}
 use lib.Dec.{eqb}
 use Rattle.machine.specs.Machine.{call, step, codeAt}
 use Rattle.frame.specs.Bytes.{pick}
@@ -14,6 +15,10 @@ use Rattle.sheet.specs.declared.items.Items.{Items}
 unfoldable pub advanced : ℕ → List ℕ → Standing → Standing
 advanced zero input s = s
 advanced (suc k) input s = advanced k input (teller input .next s)
+
+-- some of the run's calls leave this memory
+abbrev pub LeftBySome : List ℕ → Standing → List ℕ → Type 0
+LeftBySome input s memory = (k : ℕ) × (memory ≡ advanced k input s .bench .memory)
 
 -- the item that may still grow, where there is one
 unfoldable pub pending : Items → List Item

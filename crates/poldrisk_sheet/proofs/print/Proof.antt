@@ -1,8 +1,10 @@
--- `print` is safe: what the page begins with stands in the buffer.
+-- `print` meets its contract: nothing is run where no rows follow; else the rows are those of the run on these files.
+use Rattle.poldrisk_sheet.proofs.Printing.{not-run, rows-run}
 use lib.Seq.{length-take-le}
 use mathlib.Core.Path.{sym}
 use native.Mathlib.Omega.{arith}
 use borrow.Author.Needs.{needs}
+use borrow.Author.Tests.{not-false}
 use Rattle.poldrisk_sheet.proofs.print.Statement.{statement}
 use Rattle.poldrisk_sheet.proofs.print.Tie as tie
 
@@ -33,13 +35,13 @@ same-length : tie.Need-same-length
 same-length c = search needs
 
 returns : tie.Need-returns
-returns c = search needs
+returns c = not-run _ _ _
 
 same-length-2 : tie.Need-same-length-2
 same-length-2 c = search needs
 
 returns-2 : tie.Need-returns-2
-returns-2 c = search needs
+returns-2 c = not-run _ _ _
 
 slice-aggregate-print-rows : tie.Need-slice-aggregate-print-rows
 slice-aggregate-print-rows c = search needs
@@ -54,7 +56,12 @@ same-length-3 : tie.Need-same-length-3
 same-length-3 c = search needs
 
 returns-3 : tie.Need-returns-3
-returns-3 c = search needs
+returns-3 c =
+    let run = c .before .before .before .before in
+    let test = run .before .before .before .before in
+    let begun = test .before .before .before .before .before .before in
+    let laid = begun .before .before .before in
+    rows-run _ _ _ _ _ _ _ _ _ _ (laid .places-of .ensures) (begun .begin .ensures) (search needs) (not-false _ (test .if2 .left)) (run .print-rows .ensures)
 
 pub print-spec : {M : Type 1} → statement M
 print-spec =

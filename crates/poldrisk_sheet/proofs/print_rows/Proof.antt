@@ -1,11 +1,9 @@
--- `print_rows` is safe and ends: each piece leaves less of the sheet.
-use lib.ListN.{length}
+-- `print_rows` meets its contract: each piece is written from where the one before left off, by calls of the run, and the sheet ends.
 use lib.Seq.{length-take-le}
-use mathlib.Core.Path.{_≡_, refl, sym, _∙_}
-use native.Mathlib.Omega.{arith}
+use mathlib.Core.Path.{sym}
 use borrow.Author.Needs.{needs}
 use borrow.Author.Tests.{not-true}
-use Rattle.poldrisk_sheet.proofs.Printing.{nearer}
+use Rattle.poldrisk_sheet.proofs.Printing.{Going, going, left-by, used-there, goes-on, nearer}
 use Rattle.sheet.specs.Sheet.{teller}
 use Rattle.sheet.specs.Writing.{standingAt}
 use Rattle.text.specs.Telling.{left}
@@ -14,7 +12,7 @@ use Rattle.poldrisk_sheet.proofs.print_rows.Tie as tie
 
 abbrev Inv-loop : tie.InvT-loop
 Inv-loop commands memory₀ output₀ buffer₀ places tags selection₀ progress₀ memory output buffer selection progress =
-    (length memory ≡ length memory₀) × ((length output ≡ length output₀) × (length buffer ≡ length buffer₀))
+    Going commands places tags memory₀ output₀ buffer₀ memory output selection buffer progress
 
 abbrev μ-loop : tie.MeasureT-loop
 μ-loop commands memory₀ output₀ buffer₀ places tags selection₀ progress₀ memory output buffer selection progress =
@@ -24,7 +22,7 @@ start-requires : tie.Need-start-requires Inv-loop μ-loop
 start-requires c κs = search needs
 
 loop-holds : tie.Need-loop-holds Inv-loop μ-loop
-loop-holds c = (refl, (refl, refl))
+loop-holds c = going _ _ _ _ _ _ _ _ (c .start .ensures)
 
 write-requires : tie.Need-write-requires Inv-loop μ-loop
 write-requires c κs = search needs
@@ -32,12 +30,14 @@ write-requires c κs = search needs
 slice-reshare-prefix-write-all : tie.Need-slice-reshare-prefix-write-all Inv-loop μ-loop
 slice-reshare-prefix-write-all c =
     let made = c .before .before .before .before .before .before in
-    omega (arith, made .write .ensures .within, made .write .kept .1 .1 .1 .1 .0)
+    let l = made .before .before .before .before .before .before .before in
+    used-there _ _ _ _ _ _ _ _ _ _ _ _ _ _ _ _ _ (l .loop .inv) (l .before .before .before .before .before .before .pre) (made .write .ensures) (made .write .kept .1 .0) (made .write .kept .1 .1 .0) (made .write .kept .1 .1 .1 .1 .0)
 
 slice-aggregate-write-all : tie.Need-slice-aggregate-write-all Inv-loop μ-loop
 slice-aggregate-write-all c =
     let made = c .before .before .before .before .before .before .before in
-    sym (length-take-le _ _ (omega (arith, made .write .ensures .within, made .write .kept .1 .1 .1 .1 .0)))
+    let l = made .before .before .before .before .before .before .before in
+    sym (length-take-le _ _ (used-there _ _ _ _ _ _ _ _ _ _ _ _ _ _ _ _ _ (l .loop .inv) (l .before .before .before .before .before .before .pre) (made .write .ensures) (made .write .kept .1 .0) (made .write .kept .1 .1 .0) (made .write .kept .1 .1 .1 .1 .0)))
 
 write-all-requires : tie.Need-write-all-requires Inv-loop μ-loop
 write-all-requires c κs = search needs
@@ -52,20 +52,22 @@ same-length-3 : tie.Need-same-length-3 Inv-loop μ-loop
 same-length-3 c = search needs
 
 returns : tie.Need-returns Inv-loop μ-loop
-returns c = search needs
+returns c =
+    let made = c .before .before .before .before .before .before .before .before .before in
+    let l = made .before .before .before .before .before .before .before in
+    left-by _ _ _ _ _ _ _ _ _ _ _ (goes-on _ _ _ _ _ _ _ _ _ _ _ _ _ _ _ _ _ (l .loop .inv) (l .before .before .before .before .before .before .pre) (made .write .ensures) (made .write .kept .1 .0) (made .write .kept .1 .1 .0) (made .write .kept .1 .1 .1 .1 .0))
 
 loop-less : tie.Need-loop-less Inv-loop μ-loop
 loop-less c =
     let made = c .before .before .before .before .before .before .before .before .before .before in
     let l = made .before .before .before .before .before .before .before in
-    nearer _ _ _ _ _ _ _ _ (made .write .ensures) (not-true _ (made .before .before .before .before .before .if1 .taken))
-    (omega (arith, l .before .before .before .before .before .before .pre, l .loop .inv .1 .1))
+    nearer _ _ _ _ _ _ _ _ _ _ _ _ _ _ _ _ _ (l .loop .inv) (l .before .before .before .before .before .before .pre) (made .write .ensures) (made .write .kept .1 .0) (made .write .kept .1 .1 .0) (made .write .kept .1 .1 .1 .1 .0) (not-true _ (made .before .before .before .before .before .if1 .taken))
 
 loop-again : tie.Need-loop-again Inv-loop μ-loop
 loop-again c =
     let made = c .before .before .before .before .before .before .before .before .before .before in
     let l = made .before .before .before .before .before .before .before in
-    (made .write .kept .1 .0 ∙ l .loop .inv .0, (made .write .kept .1 .1 .0 ∙ l .loop .inv .1 .0, made .write .kept .1 .1 .1 .1 .0 ∙ l .loop .inv .1 .1))
+    goes-on _ _ _ _ _ _ _ _ _ _ _ _ _ _ _ _ _ (l .loop .inv) (l .before .before .before .before .before .before .pre) (made .write .ensures) (made .write .kept .1 .0) (made .write .kept .1 .1 .0) (made .write .kept .1 .1 .1 .1 .0)
 
 same-length-4 : tie.Need-same-length-4 Inv-loop μ-loop
 same-length-4 c = search needs
@@ -77,7 +79,7 @@ same-length-6 : tie.Need-same-length-6 Inv-loop μ-loop
 same-length-6 c = search needs
 
 returns-2 : tie.Need-returns-2 Inv-loop μ-loop
-returns-2 c = search needs
+returns-2 c = left-by _ _ _ _ _ _ _ _ _ _ _ (c .before .before .loop .inv)
 
 pub print-rows-spec : {M : Type 1} → statement M
 print-rows-spec =
