@@ -1,5 +1,6 @@
 // Works every published CRC by both engines, and prints the bytes with the CRC behind them, high byte first, as the source does. The stored output
 // was written from the sources: it is the published frames.
+#![tactic(auto)]
 use crc::{Direction, lookup};
 use libc::STDOUT_FILENO;
 

@@ -1,4 +1,5 @@
 // The report of a run on standard output.
+#![tactic(auto)]
 ghost use Rattle.std.specs.Prelude.{◌≤◌, length};
 ghost use Rattle.console.specs.Console.{Ran, RanFrom, Noticed};
 

@@ -1,4 +1,5 @@
 // CRC-16, worked bit by bit (document 01, "The commands": "CRC-16 of PC and EPC"). `lookup` has it from tables, `shifts` two bytes at a time for the tag.
+#![tactic(auto)]
 pub mod high_first;
 pub mod lookup;
 pub mod low_first;

@@ -1,4 +1,5 @@
 // A file, read into a lent buffer; and the files of a crate of tags.
+#![tactic(auto)]
 ghost use Rattle.io.specs.Counts.{IsPrefixLen};
 
 pub mod tags;

@@ -1,4 +1,6 @@
 // Frames of the reader protocol (document 01, "The frame" and "Finding a command").
+#![tactic(auto)]
+
 pub mod bytes;
 pub mod check;
 pub mod closing;

@@ -1,4 +1,5 @@
 // The program of document 01: reads commands.bin and tag.img from the folder that it is run in, and prints the report.
+#![tactic(auto)]
 use files::read_file;
 
 // Each buffer has room for more than a file may have, so that one that is too long is seen to be.

@@ -1,4 +1,5 @@
 // The program for a crate of tags: reads commands.bin and the files tag-00.img to tag-15.img from the folder that it is run in, and prints the report.
+#![tactic(auto)]
 use files::read_file;
 use files::tags::read_tags;
 

@@ -1,4 +1,5 @@
 // The program for the sheet: reads commands.bin and the tags' files from the folder that it is run in, and prints the sheet that is signed.
+#![tactic(auto)]
 ghost use Rattle.std.specs.Prelude.{◌≤◌, length, replicate};
 ghost use Rattle.sheet.specs.Itemised.{LeftBySome};
 ghost use Rattle.sheet.specs.Sheet.{begun_on};

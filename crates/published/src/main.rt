@@ -1,5 +1,6 @@
 // Runs every published command on each image that must give one of its published answers, and prints the answer under the heading of the
 // source. The stored output was written from the source: it is the published frames.
+#![tactic(auto)]
 use libc::STDOUT_FILENO;
 use population::places::Place;
 use report::writing::{Progress, write};

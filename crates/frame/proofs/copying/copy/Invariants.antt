@@ -1,0 +1,16 @@
+-- `copy` meets its contract. The loop's invariant: all n bytes are there and have room, the first i of them stand where they go, and all
+-- else is as it was.
+use Rattle.std.proofs.Common.{◌≡◌, ◌+◌, ◌-◌, ◌≤◌, length, get_or, set, ap, ◌∙◌, arith, length-set, rules}
+use lib.Seq.{paste, paste-zero}
+use Rattle.frame.proofs.Copies.{reaches_there, copied_short, copied_no_room, copied_more, copied_whole}
+use Rattle.frame.proofs.Tests.{not_holds, not_fails}
+use Rattle.frame.specs.Bytes.{part}
+use Rattle.frame.proofs.copying.copy.Given as goal
+
+abbrev pub invariant-loop-i : goal.invariant-loop-i
+invariant-loop-i l =
+    (l.start + l.n ≤ length l.from)
+    × ((l.at + l.n ≤ length l.initial.to) × ((l.i ≤ l.n) × ((l.to ≡ paste l.initial.to l.at (part l.from l.start l.n) l.i) × (length l.to ≡ length l.initial.to))))
+
+abbrev pub decreases-loop-i : goal.decreases-loop-i
+decreases-loop-i l = l.n - l.i
