@@ -27,7 +27,7 @@ use reader::state::Reader;
 
 // What a call hands back beside memory, output and selection: how it ended, the length of the frame written, the reader's state, the number of the first tag
 // that may still be handed out, and how many bytes the selection has.
-#[derive(Drop)]
+#[derive(Clone, Copy)]
 pub struct Called {
     pub outcome: Outcome,
     pub length: usize,

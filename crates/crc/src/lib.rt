@@ -1,5 +1,6 @@
 // CRC-16, worked bit by bit (document 01, "The commands": "CRC-16 of PC and EPC"). `lookup` has it from tables, `shifts` two bytes at a time for the tag.
 #![tactic(auto)]
+
 pub mod high_first;
 pub mod lookup;
 pub mod low_first;
@@ -9,7 +10,7 @@ ghost use Rattle.std.specs.Prelude.{◌≡◌};
 ghost use Rattle.crc.specs.Crc.{bit_step, entered, byte_step, crc, tag_crc};
 
 // Which end of a byte goes in first. The tag's CRC takes the highest bit first.
-#[derive(Drop)]
+#[derive(Clone, Copy)]
 pub enum Direction {
     HighFirst,
     LowFirst,

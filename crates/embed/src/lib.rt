@@ -24,7 +24,7 @@ use reader::tally::Tally;
 const LIMIT: u64 = 4294967295;
 
 // The numbers of the packed state, as a reader's state.
-#[derive(Drop)]
+#[derive(Clone, Copy)]
 enum Unpacked {
     Fit(Reader),
     OutOfRange,

@@ -11,7 +11,7 @@ use tag::acts::act_of;
 use tag::commands::Act;
 
 // How a command went: nothing was done, or an answer of this many bytes was written.
-#[derive(Drop)]
+#[derive(Clone, Copy)]
 pub enum Executed {
     // The image lacks bytes that the command needs, or the output is shorter than an answer may be.
     Refused,

@@ -16,14 +16,14 @@ use reader::outcome::Outcome;
 use reader::state::Reader;
 
 // A failure, or none.
-#[derive(Drop)]
+#[derive(Clone, Copy)]
 pub struct Failure {
     pub found: bool,
     pub item: Record,
 }
 
 // What a call came to; where the list's next record goes, `room` for none; that record; and how many are held then.
-#[derive(Drop)]
+#[derive(Clone, Copy)]
 pub struct Listed {
     pub called: Called,
     pub at: usize,

@@ -3,7 +3,7 @@ ghost use Rattle.std.specs.Prelude.{◌≡◌};
 ghost use Rattle.failures.specs.Records.{blank};
 
 // Where the cursor stood before the call; the command's code, or the reason of a drop; and the error byte of the answer, 0 for a drop.
-#[derive(Drop)]
+#[derive(Clone, Copy)]
 pub struct Record {
     pub cursor: usize,
     pub code: u16,

@@ -6,7 +6,7 @@ pub mod tags;
 
 // Whether the file was opened, how many bytes stand at the start of the buffer, and whether no read failed. A file that is longer than the buffer is read
 // as far as the buffer goes.
-#[derive(Drop)]
+#[derive(Clone, Copy)]
 pub struct Read {
     pub opened: bool,
     pub length: usize,

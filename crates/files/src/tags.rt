@@ -6,7 +6,7 @@ ghost use Rattle.io.specs.Counts.{IsPrefixLen};
 use crate::read_file;
 
 // How many tags there are, how many bytes of the memory their files have taken, and whether no read failed.
-#[derive(Drop)]
+#[derive(Clone, Copy)]
 pub struct Tags {
     pub count: usize,
     pub length: usize,

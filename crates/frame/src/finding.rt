@@ -7,7 +7,7 @@ use crate::bytes::number_at;
 use crate::check::check;
 
 // Why a byte is dropped (request P1). `reason_number` in specs/Finding.antt gives the paper's number of each.
-#[derive(Drop)]
+#[derive(Clone, Copy)]
 pub enum Reason {
     // 1: the byte is not BB.
     NoHeader,
@@ -34,7 +34,7 @@ pub fn reason_number(reason: Reason) -> u64
 }
 
 // What the finding rules make of the input from the cursor on.
-#[derive(Drop)]
+#[derive(Clone, Copy)]
 pub enum Found {
     // Rule 1: nothing is left.
     End,

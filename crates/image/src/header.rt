@@ -8,14 +8,14 @@ ghost use Rattle.image.specs.Image.{bank_at, view, bank_of};
 use frame::bytes;
 
 // A bank's place in the image: how many words it has, and where its first byte stands.
-#[derive(Drop)]
+#[derive(Clone, Copy)]
 pub struct Bank {
     pub words: usize,
     pub offset: usize,
 }
 
 // What the rules see of an image. No byte of a password is in it.
-#[derive(Drop)]
+#[derive(Clone, Copy)]
 pub struct View {
     pub size: usize,
     pub format: usize,
@@ -139,7 +139,7 @@ fn short_view(image: &[u8]) -> View
 }
 
 // Where the PC and the EPC stand, and how many bytes they have: all that an answer's tail needs of the header.
-#[derive(Drop)]
+#[derive(Clone, Copy)]
 pub struct Span {
     pub from: usize,
     pub count: usize,

@@ -14,7 +14,7 @@ use reader::outcome::Outcome;
 use reader::state::Reader;
 
 // A command for one tag: its `pl` parameter bytes stand from `first` on, and the cursor goes to `behind`.
-#[derive(Drop)]
+#[derive(Clone, Copy)]
 pub struct Aimed {
     pub number: usize,
     pub place: Place,
@@ -25,7 +25,7 @@ pub struct Aimed {
 }
 
 // A job, as data: `carried_out` in specs/Machine.antt says what each comes to.
-#[derive(Drop)]
+#[derive(Clone, Copy)]
 pub enum Job {
     // The call ends so, with nothing changed.
     Stay(Outcome),

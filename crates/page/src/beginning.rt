@@ -11,7 +11,7 @@ use report::limits::{Files, judge, write_notice};
 use text::counts::put_refused;
 
 // How many bytes of the buffer it has, and whether rows and a foot follow.
-#[derive(Drop)]
+#[derive(Clone, Copy)]
 pub struct Begun {
     pub used: usize,
     pub rows: bool,

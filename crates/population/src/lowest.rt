@@ -7,7 +7,7 @@ use crate::places::Place;
 use frame::bytes::{byte_at, reaches};
 
 // No tag, or its number and its place.
-#[derive(Drop)]
+#[derive(Clone, Copy)]
 pub enum Lowest {
     NoTag,
     Tag { number: usize, place: Place },

@@ -6,7 +6,7 @@ use frame::bytes::{fits, reaches};
 use image::good::is_good;
 
 // The bytes of one tag's image. Sums of two of these are taken as usize, where none wraps.
-#[derive(Drop)]
+#[derive(Clone, Copy)]
 pub struct Place {
     pub from: u32,
     pub size: u32,

@@ -4,7 +4,7 @@ ghost use Rattle.reader.specs.Outcomes.{number_of, reason_of};
 
 use frame::finding::{Reason, reason_number};
 
-#[derive(Drop)]
+#[derive(Clone, Copy)]
 pub enum Outcome {
     // 0: a command was accepted.
     Answered,

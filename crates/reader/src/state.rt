@@ -4,7 +4,7 @@ ghost use Rattle.reader.specs.Readers.{fresh_reader};
 
 use crate::tally::Tally;
 
-#[derive(Drop)]
+#[derive(Clone, Copy)]
 pub struct Reader {
     pub cursor: usize,
     pub tally: Tally,

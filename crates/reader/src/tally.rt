@@ -4,7 +4,7 @@ ghost use Rattle.reader.specs.Tallies.{raised, fresh_tally, with_good, with_erro
 
 use frame::finding::Reason;
 
-#[derive(Drop)]
+#[derive(Clone, Copy)]
 pub struct Tally {
     // Good answers, and error answers.
     pub good: u32,

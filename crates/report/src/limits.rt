@@ -6,7 +6,7 @@ ghost use Rattle.report.specs.Writing.{Told};
 use text::putting::put_text;
 
 // How the files stand before a run.
-#[derive(Drop)]
+#[derive(Clone, Copy)]
 pub enum Files {
     // One of them was opened and could not be read to its end.
     Unreadable,

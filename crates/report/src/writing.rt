@@ -17,7 +17,7 @@ use text::putting::missing;
 
 // Where a report stands between two pieces, beside the memory, the output and the selection's bytes: `next` is the number of the first tag that may still be
 // handed out, `count` says how many bytes the selection has, and `held` how many of the records are the list of failures.
-#[derive(Drop)]
+#[derive(Clone, Copy)]
 pub struct Progress {
     pub reader: Reader,
     pub next: usize,
@@ -43,14 +43,14 @@ impl Progress {
 }
 
 // Whether the lent buffer has room for the longest line.
-#[derive(Drop)]
+#[derive(Clone, Copy)]
 pub enum Room {
     Enough,
     TooShort,
 }
 
 // What a piece comes to: how many bytes stand in the buffer, and where the report goes on.
-#[derive(Drop)]
+#[derive(Clone, Copy)]
 pub struct Written {
     pub room: Room,
     pub used: usize,
@@ -107,7 +107,7 @@ fn put_line(
 }
 
 // The list of failures, with room for one more.
-#[derive(Drop)]
+#[derive(Clone, Copy)]
 struct Roomy {
     records: [Record; 8],
     held: usize,

@@ -4,7 +4,7 @@ ghost use Rattle.std.specs.Prelude.{◌≡◌};
 use reader::tally::Tally;
 
 // Where its first and its last byte stand, the byte of the error answer, 0 for drops, and how many bytes were dropped for each reason.
-#[derive(Drop)]
+#[derive(Clone, Copy)]
 pub struct Item {
     pub first: usize,
     pub last: usize,

@@ -10,14 +10,14 @@ use reader::tally::Tally;
 use rows::items::Item;
 
 // How many items there are, and the last of them: it may still grow, and is told when the next one comes.
-#[derive(Drop)]
+#[derive(Clone, Copy)]
 pub struct Items {
     pub count: usize,
     pub last: Item,
 }
 
 // What a call means for the items.
-#[derive(Drop)]
+#[derive(Clone, Copy)]
 pub enum Failing {
     // It is no failure.
     Passed,

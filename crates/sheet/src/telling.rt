@@ -21,7 +21,7 @@ use tag::commands::Parsed;
 use tag::parsing::parse_command;
 
 // Where a sheet stands between two pieces, beside the memory, the output and the selection's bytes.
-#[derive(Drop)]
+#[derive(Clone, Copy)]
 pub struct Progress {
     pub reader: Reader,
     pub next: usize,
@@ -45,7 +45,7 @@ impl Progress {
 }
 
 // How many bytes of the buffer a piece has, and where the sheet goes on.
-#[derive(Drop)]
+#[derive(Clone, Copy)]
 pub struct Written {
     pub used: usize,
     pub progress: Progress,

@@ -1,7 +1,7 @@
 // A command, and what it comes to (document 01, "The commands, checks in order").
 
 // A command whose fields are right. Malformed is any other, and any code that is not listed.
-#[derive(Drop)]
+#[derive(Clone, Copy)]
 pub enum Parsed {
     Malformed,
     Inventory,
@@ -28,7 +28,7 @@ pub enum Parsed {
 }
 
 // What a command comes to: an error, or what is answered and stored.
-#[derive(Drop)]
+#[derive(Clone, Copy)]
 pub enum Act {
     // Code FF and one byte.
     PlainError(u8),

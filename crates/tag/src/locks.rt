@@ -4,7 +4,7 @@ ghost use Rattle.tag.specs.Bounds.{Paired};
 ghost use Rattle.tag.specs.Locks.{pairs, standing_of, kill_standing_of, is_secured, is_wrong};
 
 // The lock bits, a pair for each region.
-#[derive(Drop)]
+#[derive(Clone, Copy)]
 pub struct Pairs {
     pub kill: usize,
     pub access: usize,
@@ -14,7 +14,7 @@ pub struct Pairs {
 }
 
 // How a tag stands to the access password that a command carries.
-#[derive(Drop)]
+#[derive(Clone, Copy)]
 pub enum Standing {
     Secured,
     Open,
@@ -22,7 +22,7 @@ pub enum Standing {
 }
 
 // How a tag stands to the kill password that a Kill carries.
-#[derive(Drop)]
+#[derive(Clone, Copy)]
 pub enum KillStanding {
     NoneStored,
     Equal,

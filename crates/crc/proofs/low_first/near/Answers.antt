@@ -2,12 +2,8 @@
 use mathlib.Core.Path.{refl}
 use Rattle.crc.specs.Crc.{leaving, shifted, added, bit_step, bit_steps, entered}
 use Rattle.crc.specs.Tables.{polynomial_of, entries, table_of, near_table}
-use Rattle.crc.proofs.high_first.near.Statement.{statement}
-use Rattle.crc.proofs.high_first.near.Tie as tie
+use Rattle.crc.proofs.low_first.near.Goals as goal
 
-returns : tie.Need-returns
+pub returns : goal.returns
 unfolding near_table polynomial_of table_of entries bit_steps bit_step leaving shifted added entered
 returns c = refl
-
-pub near-spec : {M : Type 1} → statement M
-near-spec = tie.close (tie.spec returns)

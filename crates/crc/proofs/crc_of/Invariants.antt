@@ -1,0 +1,16 @@
+-- `crc_of` meets its contract: what is worked, with the bytes left, is the whole CRC.
+use Prim.Native.Nat.{◌-◌, ◌≤◌}
+use lib.ListN.{length, drop}
+use mathlib.Core.Path.{◌≡◌, refl, sym, ◌∙◌}
+use native.Mathlib.Omega.{arith}
+use borrow.Author.Rules.{rules}
+use Rattle.crc.specs.Crc.{crc}
+use Rattle.crc.proofs.Steps.{bytes_next, bytes_none}
+use Rattle.crc.proofs.crc_of.Given as goal
+
+abbrev pub invariant-loop-i : goal.invariant-loop-i
+invariant-loop-i l =
+    (l.i ≤ length l.bytes) × (crc l.direction l.polynomial l.worked (drop l.i l.bytes) ≡ crc l.direction l.polynomial l.register l.bytes)
+
+abbrev pub decreases-loop-i : goal.decreases-loop-i
+decreases-loop-i l = length l.bytes - l.i

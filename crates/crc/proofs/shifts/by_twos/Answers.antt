@@ -1,0 +1,27 @@
+-- `by_twos` meets its contract: what is worked, with the bytes left, is the whole CRC.
+use Prim.Native.Nat.{◌-◌, ◌≤◌}
+use lib.ListN.{length, drop}
+use mathlib.Core.Path.{◌≡◌, refl, sym, ◌∙◌}
+use native.Mathlib.Omega.{arith}
+use borrow.Author.Rules.{rules}
+use Rattle.crc.specs.Crc.{crc}
+use Rattle.crc.specs.declared.Direction.TheVariants.{HighFirst}
+use Rattle.crc.proofs.Steps.{bytes_next, bytes_none, two_bytes_next, last_byte}
+use Rattle.crc.proofs.shifts.by_twos.Goals as goal
+
+pub loop-i-init : goal.loop-i-init
+loop-i-init c = (omega arith, refl)
+
+pub loop-i-preserved : goal.loop-i-preserved
+loop-i-preserved c =
+    let bytes = c.args.bytes.now in (
+      omega arith,
+      rw c.two_bytes-worked.ensures (two_bytes_next _ _ bytes c.loop-i.i _ c.loop-i-test.true ∙ c.loop-i.invariant.1),
+    )
+
+pub returns-then-i-bytes : goal.returns-then-i-bytes
+returns-then-i-bytes c =
+    c.byte_step.ensures ∙ (last_byte _ _ c.args.bytes.now c.loop-i.i _ c.if-i-bytes.true c.loop-i-test.false ∙ c.loop-i.invariant.1)
+
+pub returns : goal.returns
+returns c = sym (bytes_none _ _ _ _ _ c.if-i-bytes.false) ∙ c.loop-i.invariant.1
