@@ -12,7 +12,7 @@ pub returns : goal.returns
 unfolding near_table far_table polynomial_of
 returns c =
     let given = c.args in
-    let bytes : Bytes given.bytes.now = λ i. omega (arith, c.shared_slice_known-1.given i) in
+    let bytes : Bytes given.bytes.now = λ i. omega (arith, c.type_inv.bytes i) in
     let word : given.register < 0x10000 = search rules in
     ◌∙◌ {b = table_crc HighFirst c.near-near.result c.far-far.result given.register given.bytes.now} c.looked_up.ensures
     (by_tables HighFirst 0x1021 (omega arith) c.near-near.result c.far-far.result c.near-near.ensures c.far-far.ensures given.register given.bytes.now word bytes)

@@ -15,14 +15,14 @@ use Rattle.crc.proofs.shifts.by_fours.Goals as goal
 pub four_bytes-worked-requires : goal.four_bytes-worked-requires
 four_bytes-worked-requires c =
     let bytes = c.args.bytes.now in
-    let are : Bytes bytes = λ i. omega (arith, c.shared_slice_known-1.given i) in
+    let are : Bytes bytes = λ i. omega (arith, c.type_inv.bytes i) in
     omega (arith, c.four_in.ensures, four_small bytes are 0)
 
 pub returns : goal.returns
 returns c =
     let register = c.args.register in
     let bytes = c.args.bytes.now in
-    let are : Bytes bytes = λ i. omega (arith, c.shared_slice_known-1.given i) in
+    let are : Bytes bytes = λ i. omega (arith, c.type_inv.bytes i) in
     let word : register < 0x10000 = search rules in
     c.by_twos-2.ensures
     ∙ ap (crc HighFirst 0x1021 c.four_bytes-worked.result) (take_all (length bytes - 4) (drop 4 bytes) (omega (arith, length-drop 4 bytes)))

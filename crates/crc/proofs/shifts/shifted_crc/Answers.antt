@@ -17,13 +17,13 @@ loop-i-init c = (omega arith, (search rules, refl))
 pub eight_bytes-worked-requires : goal.eight_bytes-worked-requires
 eight_bytes-worked-requires c =
     let bytes = c.args.bytes.now in
-    let are : Bytes bytes = λ i. omega (arith, c.shared_slice_known-1.given i) in
+    let are : Bytes bytes = λ i. omega (arith, c.type_inv.bytes i) in
     (omega (arith, c.four_in.ensures, four_small bytes are c.loop-i.i), omega (arith, c.four_in-in-loop-i.ensures, four_small bytes are (c.loop-i.i + 4)))
 
 pub loop-i-preserved : goal.loop-i-preserved
 loop-i-preserved c =
     let bytes = c.args.bytes.now in
-    let are : Bytes bytes = λ i. omega (arith, c.shared_slice_known-1.given i) in
+    let are : Bytes bytes = λ i. omega (arith, c.type_inv.bytes i) in
     let word = c.loop-i.invariant.1.0 in (
       omega arith,
       (

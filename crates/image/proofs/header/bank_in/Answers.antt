@@ -1,0 +1,12 @@
+-- `bank_in` meets its contract: its two numbers are those of the definition.
+use Rattle.image.specs.Image.{bank_at}
+use borrow.Author.Rules.{rules}
+use Rattle.image.proofs.header.bank_in.Goals as goal
+
+pub returns : goal.returns
+unfolding bank_at
+returns c =
+    record {
+      value = (cc);
+      small_bank = record { words_small = c.number_in.ensures.upper_bound; offset_small = c.number_in-2.ensures.upper_bound };
+    }
