@@ -1,5 +1,6 @@
 // One Gen2 tag, held as an image of its memory (document 01, "The image", "Lock bits" and "The commands").
 #![tactic(auto)]
+
 pub mod acts;
 mod admission;
 pub mod commands;
