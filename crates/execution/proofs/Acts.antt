@@ -1,5 +1,5 @@
 -- What the acts that store make of the image.
-use Prim.Native.Nat.{ℕ, suc, ◌+◌, ◌-◌, ◌/◌, ◌%◌, ◌≤◌}
+use Prim.Native.Nat.{ℕ, zero, suc, ◌+◌, ◌-◌, ◌/◌, ◌%◌, ◌≤◌}
 use lib.ListN.{length, set, drop, length-drop}
 use lib.Seq.{sets, take_all}
 use mathlib.Core.List.{List}
@@ -36,6 +36,7 @@ store_copied image p at copies after word fields room e place kept =
 pub last_byte : (l : List ℕ) (at n value : ℕ) → 1 ≤ n
     → set (sets l at (bytes_of (n - 1) (value / 256))) (at + (n - 1)) (value % 256) ≡ sets l at (bytes_of n value)
 unfolding bytes_of
+last_byte l at zero value some = elim some [ ]
 last_byte l at (suc n) value some =
     let before : suc n - 1 ≡ n = omega arith in
     let most : List ℕ = bytes_of n (value / 256) in

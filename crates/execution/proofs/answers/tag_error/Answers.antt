@@ -1,0 +1,17 @@
+-- `tag_error` meets its contract: the byte and the tail, and the frame round them.
+use lib.ListN.{length-set}
+use native.Mathlib.Omega.{arith}
+use Rattle.execution.proofs.Pieces.{tag_error_closed}
+use borrow.Author.Rules.{rules}
+use Rattle.execution.proofs.answers.tag_error.Goals as goal
+
+pub put_tail-next-requires : goal.put_tail-next-requires
+put_tail-next-requires c = (search rules, simp length-set (omega arith))
+
+pub shape_of-output : goal.shape_of-output
+shape_of-output c =
+    omega (arith, length-set c.args.output.now 5 c.args.e)
+
+pub returns : goal.returns
+returns c =
+    tag_error_closed _ c.requires.1 _ _ _ _ c.put_tail-next.ensures.put c.put_tail-next.ensures.upper_bound _ _ c.close.ensures
