@@ -1,0 +1,29 @@
+use Prim.Native.Nat.{◌-◌, ◌≤◌}
+use borrow.Author.Rules.{rules}
+use mathlib.Core.Path.{◌≡◌, sym, ◌∙◌}
+use native.Mathlib.Omega.{arith}
+use Rattle.frame.proofs.Tests.{holds, fails}
+use Rattle.population.proofs.Firsts.{first_none, first_here, first_next}
+use Rattle.population.proofs.Selects.{lowest_many, lowest_few}
+use Rattle.population.specs.Places.{place_at}
+use Rattle.population.specs.Lowest.{selected_at, first_tag, lowest}
+use Rattle.population.proofs.lowest.scan.Goals as goal
+
+pub returns-then-tags-gt16 : goal.returns-then-tags-gt16
+returns-then-tags-gt16 c = lowest_many _ _ _ _ _ c.if-tags-gt16.true
+
+pub loop-i-init : goal.loop-i-init
+loop-i-init c = (omega arith, lowest_few _ _ _ _ _ c.if-tags-gt16.false)
+
+pub returns-then-is_selected : goal.returns-then-is_selected
+unfolding selected_at place_at
+returns-then-is_selected c =
+    sym (c.loop-i.invariant.1 ∙ first_here _ _ _ _ c.loop-i-test.true (holds c.if-is_selected.true c.is_selected.ensures))
+
+pub loop-i-preserved : goal.loop-i-preserved
+unfolding selected_at place_at
+loop-i-preserved c =
+    (omega arith, c.loop-i.invariant.1 ∙ first_next _ _ _ _ c.loop-i-test.true (fails c.if-is_selected.false c.is_selected.ensures))
+
+pub returns : goal.returns
+returns c = sym (c.loop-i.invariant.1 ∙ first_none _ _ _ _ c.loop-i-test.false)

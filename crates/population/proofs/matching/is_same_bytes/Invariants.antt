@@ -1,0 +1,15 @@
+use Prim.Native.Nat.{◌*◌, ◌≤◌}
+use borrow.Author.Rules.{rules}
+use mathlib.Core.Path.{◌≡◌, refl, sym, ◌∙◌}
+use native.Mathlib.Omega.{arith}
+use Rattle.population.proofs.Below.{none_below}
+use Rattle.population.proofs.Bits.{byte_same, byte_differs}
+use Rattle.population.specs.Below.{all_below}
+use Rattle.population.specs.Matching.{same_bit, same_bits}
+use Rattle.population.proofs.matching.is_same_bytes.Given as goal
+
+abbrev pub invariant-loop-k : goal.invariant-loop-k
+invariant-loop-k l = (l.k ≤ l.count) × (same_bits l.image l.at l.selection (8 * l.count) ≡ all_below (same_bit l.image l.at l.selection) (8 * l.k))
+
+abbrev pub decreases-loop-k : goal.decreases-loop-k
+decreases-loop-k l = l.k
