@@ -2,7 +2,6 @@
 use Prim.Native.Nat.{ℕ}
 use borrow.Author.Tests.{ne_eqb}
 use mathlib.Core.Bool.{true}
-use denote.Enum.Declared.{tag_of}
 use mathlib.Core.List.{List, [], ◌∷◌}
 use mathlib.Core.Logic.{◌≢◌, ⊎_elim}
 use mathlib.Core.Path.{◌≡◌, refl, sym, subst, ◌∙◌}
@@ -12,12 +11,10 @@ use Rattle.frame.proofs.Picks.{pick_true}
 use Rattle.frame.specs.Bytes.{byte}
 use Rattle.image.specs.Image.{view}
 use Rattle.tag.specs.Commands.{parse, gone, if_present, admitted, inventory_verdict, read_verdict, write_verdict, lock_verdict, kill_verdict, verdict, act_of}
-use Rattle.tag.specs.contracts.commands.Act.{the_type}
 use Rattle.tag.specs.declared.commands.Act.{Act}
 use Rattle.tag.specs.declared.commands.Act.TheVariants.{PlainError}
 use Rattle.tag.specs.declared.commands.Parsed.{Parsed}
 use Rattle.tag.specs.declared.commands.Parsed.TheVariants.{Malformed, Inventory, Read, Write, Lock, Kill}
-use types.Run.{OneOf}
 
 module _ (image p : List ℕ) (away : byte image 22 ≢ 0) where
   is_gone : gone (view image) ≡ true
@@ -42,9 +39,5 @@ module _ (image p : List ℕ) (away : byte image 22 ≢ 0) where
     pub told_error : (e : ℕ) → act ≡ PlainError e → e ≡ error_without (parse code p)
     told_error e kind = let same : PlainError e ≡ PlainError (error_without (parse code p)) = sym kind ∙ is ∙ act_without code in cc
 
-    pub no_other : OneOf (1 ∷ 2 ∷ 3 ∷ 4 ∷ 5 ∷ []) (tag_of the_type act) → ⊥
-    no_other k =
-        let none : OneOf (1 ∷ 2 ∷ 3 ∷ 4 ∷ 5 ∷ []) (tag_of the_type (PlainError (error_without (parse code p)))) =
-        subst (λ (a : Act). OneOf (1 ∷ 2 ∷ 3 ∷ 4 ∷ 5 ∷ []) (tag_of the_type a)) (is ∙ act_without code) k
-        in
-        ⊎_elim (λ e. omega arith) (⊎_elim (λ e. omega arith) (⊎_elim (λ e. omega arith) (⊎_elim (λ e. omega arith) (λ e. omega arith)))) none
+    pub no_other : ((e : ℕ) → act ≡ PlainError e → ⊥) → ⊥
+    no_other none = none _ (is ∙ act_without code)
