@@ -2,11 +2,9 @@ pub mod Besides
 pub mod Bounding
 pub mod Claimed
 pub mod Histories
-pub mod Lent
 pub mod Listings
 pub mod Lists
 pub mod Moves
 pub mod Numbers
-pub mod Row
 pub mod Secrets
 pub mod Threes
