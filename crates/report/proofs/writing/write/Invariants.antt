@@ -1,0 +1,22 @@
+-- `write` meets its contract. The loop's invariant: what was put, and what the rest of the buffer takes from the state reached, is the
+-- piece.
+use Prim.Native.Nat.{suc, ◌-◌}
+use lib.ListN.{length}
+use mathlib.Core.Path.{◌≡◌, refl, ◌∙◌}
+use native.Mathlib.Omega.{arith}
+use Rattle.machine.specs.Machine.{work}
+use Rattle.frame.specs.Bytes.{pick}
+use Rattle.report.proofs.Pieces.{Going, going, goes, falls, too_short, filled, ended}
+use Rattle.report.specs.Writing.{state_at}
+use borrow.Author.Rules.{rules}
+use Rattle.report.proofs.writing.write.Given as goal
+
+abbrev pub invariant-loop-used : goal.invariant-loop-used
+invariant-loop-used l =
+    (length l.memory ≡ length l.initial.memory)
+    × ((length l.output ≡ length l.initial.output)
+    × Going l.input l.initial.buffer (state_at l.initial.memory l.places l.tags l.initial.selection l.initial.output l.initial.next) l.initial.next.over l.buffer l.used (state_at l.memory l.places l.tags l.selection l.output l.next) l.next.over)
+
+abbrev pub decreases-loop-used : goal.decreases-loop-used
+decreases-loop-used l =
+    pick l.next.over 0 (suc (work l.input (state_at l.memory l.places l.tags l.selection l.output l.next)))
