@@ -1,0 +1,12 @@
+-- `begin_run` meets its contract: a bad crate, or the head.
+use Rattle.page.proofs.Beginnings.{refused_begins, head_begins}
+use borrow.Author.Rules.{rules}
+use Rattle.page.proofs.beginning.begin_run.Goals as goal
+
+pub returns-then-not-is_good_population : goal.returns-then-not-is_good_population
+returns-then-not-is_good_population c =
+    refused_begins _ c.requires _ _ _ _ _ _ _ _ c.is_good_population.ensures c.if-not-is_good_population.true-raw c.put_refused-used.ensures
+
+pub returns : goal.returns
+returns c =
+    head_begins _ c.requires _ _ _ _ _ _ _ _ c.is_good_population.ensures c.if-not-is_good_population.false-raw c.write_head-used.ensures
