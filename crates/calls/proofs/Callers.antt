@@ -23,7 +23,6 @@ use Rattle.machine.specs.declared.deciding.Job.{Job}
 use Rattle.frame.proofs.Picks.{pick_true, pick_false, by_test}
 use Rattle.frame.proofs.Tests.{either, all_at}
 use Rattle.frame.specs.Bytes.{byte, part}
-use Rattle.frame.specs.Frames.{frame_length}
 use Rattle.frame.specs.declared.finding.Reason.{Reason}
 use Rattle.population.proofs.Takings.{taken_short}
 use Rattle.population.specs.Selections.{mask_bytes, taken}

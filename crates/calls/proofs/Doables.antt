@@ -5,7 +5,7 @@ use mathlib.Core.Bool.{Bool}
 use mathlib.Core.List.{List}
 use mathlib.Core.Path.{◌≡◌, ap, sym, subst, ◌∙◌}
 use native.Mathlib.Omega.{arith}
-use Rattle.calls.specs.Calls.{Lent, lent_after, lent_by, Ready, Framed, Aimable, Doable}
+use Rattle.calls.specs.Calls.{Lent, lent_after, lent_by, Framed, Aimable, Doable}
 use Rattle.frame.proofs.Picks.{by_test}
 use Rattle.machine.proofs.Lowests.{lowest_inside, lowest_good}
 use Rattle.machine.proofs.Steps.{Tested, Accepts, hand_out_at, command_at, job_cases, found_tag, frame_inside}

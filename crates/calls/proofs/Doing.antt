@@ -14,14 +14,14 @@ use Rattle.reader.specs.declared.outcome.Outcome.{Outcome}
 use Rattle.reader.specs.declared.outcome.Outcome.TheVariants.{Answered, Dropped}
 use Rattle.machine.specs.Lent.{selection_in}
 use Rattle.calls.specs.Calls.{step_of, Lent, lent_of, with_selected, lent_after, Ready, Framed, Aimable, Doable, AimDone, Told, Selected}
-use Rattle.machine.specs.Machine.{State, state_of, Step, parameters_at, unchanged, dropped, told, plain_error, select_taken, selecting, missed, next_after, image_for, act_for, acted, aimed, carried_out, counted}
+use Rattle.machine.specs.Machine.{State, state_of, parameters_at, unchanged, dropped, told, plain_error, select_taken, selecting, missed, next_after, image_for, act_for, acted, aimed, carried_out, counted}
 use Rattle.calls.specs.declared.calling.Called.{Called}
 use Rattle.machine.specs.declared.deciding.Aimed.{Aimed}
 use Rattle.machine.specs.declared.deciding.Job.{Job}
 use Rattle.machine.specs.declared.deciding.Job.TheVariants.{Stay, DropByte, Select, Miss, Aim}
 use Rattle.execution.proofs.Callers.{Ran, ran, told_refused, told_error, told_good}
 use Rattle.execution.proofs.Rounds.{closed_round}
-use Rattle.execution.specs.Execution.{Execution, FrameWritten, image_after}
+use Rattle.execution.specs.Execution.{FrameWritten, image_after}
 use Rattle.execution.specs.declared.execute.Executed.{Executed}
 use Rattle.execution.specs.declared.execute.Executed.TheVariants.{Refused, Good, Error}
 use Rattle.frame.proofs.Copies.{copied_is}
@@ -31,10 +31,10 @@ use Rattle.frame.proofs.Tests.{either, all_at}
 use Rattle.frame.specs.Bytes.{pick, byte, part}
 use Rattle.frame.specs.Closing.{Closing}
 use Rattle.frame.specs.Copying.{copied}
-use Rattle.frame.specs.Frames.{frame_of, frame_length, written}
+use Rattle.frame.specs.Frames.{frame_of, frame_length}
 use Rattle.frame.specs.declared.finding.Reason.{Reason}
 use Rattle.population.specs.Executing.{ExecutionAt, replaced}
-use Rattle.population.specs.Places.{inside, image_at}
+use Rattle.population.specs.Places.{image_at}
 use Rattle.population.specs.Selections.{mask_bits, mask_bytes, taken}
 use Rattle.population.specs.declared.places.Place.{Place}
 use Rattle.reader.specs.Tallies.{with_good, with_error, with_dropped}

@@ -1,6 +1,6 @@
 -- The steps of a CRC go through exclusive or: what a register becomes is the sum of what its parts become. One law over the polynomial and
 -- the direction, in registers of sixteen bits; the tables rest on it and on nothing else.
-use Prim.Native.Nat.{ℕ, zero, suc, ◌+◌, ◌*◌, ◌/◌, ◌%◌, ◌^◌, ◌≤◌, ◌<◌}
+use Prim.Native.Nat.{ℕ, zero, suc, ◌+◌, ◌*◌, ◌/◌, ◌%◌, ◌≤◌, ◌<◌}
 use borrow.Author.Tests.{leb-true, leb-false, eq-eqb, ne_eqb}
 use lib.Bits.{bit_xor, xor_shr, xor_mod, xor_block, xor_lt}
 use lib.Dec.{eqb, leb}

@@ -1,6 +1,6 @@
 -- What each command stores: all of it or nothing, on its own bytes alone.
-use Prim.Native.Nat.{ℕ, ◌+◌, ◌*◌, ◌≤◌, ◌<◌}
-use borrow.Author.Tests.{eqb-true, eqb-false, eq-eqb, ne_eqb}
+use Prim.Native.Nat.{ℕ, ◌+◌, ◌≤◌, ◌<◌}
+use borrow.Author.Tests.{eq-eqb, ne_eqb}
 use lib.Dec.{eqb}
 use lib.ListN.{length}
 use lib.Seq.{sets, drop-nil}
@@ -12,17 +12,17 @@ use native.Mathlib.Omega.{arith}
 use Rattle.effects.proofs.Writing.{written}
 use Rattle.effects.specs.Claims.{Overwritten, Effect, Written, NamedWords, WriteEffect, LockEffect, KillEffect, NoOtherEffect, GapsStay}
 use Rattle.frame.proofs.Numbers.{length_bytes_of}
-use Rattle.frame.proofs.Stores.{take_sets, drop_sets_behind, part_sets, byte_sets_before, byte_sets_behind}
+use Rattle.frame.proofs.Stores.{take_sets, drop_sets_behind, part_sets, byte_sets_behind}
 use Rattle.frame.specs.Bytes.{pick, byte, number, bytes_of, two_bytes}
 use Rattle.frame.specs.Frames.{written as wrote_over}
 use Rattle.image.proofs.GoodImages.{good_facts, header_there}
-use Rattle.image.specs.Image.{good, view, bank_at, bank_of, word_at, end_of}
+use Rattle.image.specs.Image.{view, bank_at, bank_of, word_at, end_of}
 use Rattle.tag.proofs.AnswerBytes.{error_code}
-use Rattle.tag.proofs.Cases.{place_of, new_bits, act_cases}
-use Rattle.tag.proofs.NamedWords.{Inside, inside, data_length}
+use Rattle.tag.proofs.Cases.{new_bits, act_cases}
+use Rattle.tag.proofs.NamedWords.{data_length}
 use Rattle.tag.specs.Answers.{answer, changed, is_error}
 use Rattle.tag.specs.Claims.{comes_to, outcome}
-use Rattle.tag.specs.Commands.{bank_in, count_in, data_in, act_of}
+use Rattle.tag.specs.Commands.{bank_in, act_of}
 use Rattle.tag.specs.declared.commands.Act.{Act}
 
 overwritten : (at : ℕ) (bytes old : List ℕ) → at + length bytes ≤ length old → Overwritten at bytes old (sets old at bytes)

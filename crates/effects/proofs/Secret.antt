@@ -1,26 +1,23 @@
 -- Two images that differ only in hidden passwords, in the course of a run with no command that carries one.
 use Prim.Native.Nat.{ℕ, ◌+◌, ◌-◌, ◌≤◌, ◌<◌}
 use lib.Dec.{eqb}
-use lib.ListN.{length, take, drop}
+use lib.ListN.{drop}
 use lib.Seq.{sets}
 use mathlib.Core.Bool.{true}
 use mathlib.Core.List.{List, [], ◌∷◌, ◌++◌}
 use mathlib.Core.Path.{◌≡◌, refl, ap, ap₂, sym, subst, ◌∙◌}
 use native.Mathlib.Omega.{arith}
-use Rattle.effects.proofs.Quiet.{Kept, Public, untold, public_act, same_act}
+use Rattle.effects.proofs.Quiet.{Kept, Public}
 use Rattle.effects.proofs.Twins.{part_behind, same_crc, same_view, same_rssi, same_epc, same_word, same_tail}
 use Rattle.effects.specs.Secrecy.{passwords_at, EqualElsewhere, Command, carries_none, none_carries}
 use Rattle.frame.proofs.Picks.{pick_true, pick_false, by_test}
 use Rattle.frame.proofs.Stores.{take_sets, drop_sets, number_sets_before, part_sets_before}
 use Rattle.frame.proofs.Tests.{either, and_left, and_right, and_both}
 use Rattle.frame.specs.Bytes.{all, number, double, part, two_bytes}
-use Rattle.frame.specs.Formats.{code_in, parameters_in}
-use Rattle.frame.specs.Frames.{frame_of, frame_length, written}
-use Rattle.frame.specs.declared.finding.Reason.{Reason}
+use Rattle.frame.specs.Frames.{frame_of}
 use Rattle.image.proofs.GoodImages.{Good, good_facts}
-use Rattle.tag.proofs.StaysGood.{stays_good}
 use Rattle.tag.specs.Answers.{answer, crc_kept, changed}
-use Rattle.tag.specs.Commands.{bank_in, data_in, act_of}
+use Rattle.tag.specs.Commands.{bank_in, data_in}
 use Rattle.image.specs.Image.{good, view, bank_at, crc_word, with_crc, kill_password, access_password}
 use Rattle.tag.specs.declared.commands.Act.{Act}
 use Rattle.image.specs.declared.header.View.{View}

@@ -6,7 +6,7 @@ use lib.ListN.{length}
 use lib.Seq.{sets, length-sets}
 use mathlib.Core.Bool.{true, false}
 use mathlib.Core.List.{List}
-use mathlib.Core.Logic.{◌⊎◌, ◌≢◌, ⊎_elim}
+use mathlib.Core.Logic.{◌≢◌, ⊎_elim}
 use mathlib.Core.Path.{◌≡◌, refl, ap, sym, subst, ◌∙◌}
 use native.Mathlib.Omega.{arith}
 use Rattle.effects.specs.Claims.{Written}
@@ -15,7 +15,7 @@ use Rattle.frame.proofs.Numbers.{length_bytes_of}
 use Rattle.frame.proofs.Picks.{pick_true, pick_false}
 use Rattle.frame.proofs.Stores.{byte_sets_before, byte_sets_behind, number_sets_before, number_sets_behind, part_sets, part_sets_behind}
 use Rattle.frame.proofs.Tests.{either, and_second}
-use Rattle.frame.specs.Bytes.{pick, byte, number, part, two_bytes}
+use Rattle.frame.specs.Bytes.{pick, number, part, two_bytes}
 use Rattle.image.proofs.CrcStores.{kept_before, stored_crc}
 use Rattle.image.proofs.GoodImages.{Good, good_facts, crc_kept_lem}
 use Rattle.image.proofs.ImageTable.{good_images}
@@ -24,7 +24,7 @@ use Rattle.tag.proofs.Cases.{Writes, place_of}
 use Rattle.tag.proofs.NamedWords.{Inside, inside, away, data_length}
 use Rattle.tag.proofs.StaysGood.{good_store, good_write}
 use Rattle.tag.specs.Answers.{crc_kept}
-use Rattle.tag.specs.Commands.{bank_in, pointer_in, count_in, data_in, names_crc}
+use Rattle.tag.specs.Commands.{bank_in, pointer_in, data_in, names_crc}
 
 -- a good image holds the CRC word where its header says
 crc_there : (l : List ℕ) (word : ℕ) → good l ≡ true → number l 10 ≡ word

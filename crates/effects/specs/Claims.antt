@@ -1,6 +1,6 @@
 -- The claims page of one command on one tag: what it leaves of the image, each as a named statement with the papers' words beside it. `comes_to` is the frame and
 -- the image of the tables on the tag's claims page; an error answer is one with code FF. Each statement is proved in proofs/Claimed.antt.
-use Rattle.std.specs.Prelude.{ℕ, ◌+◌, ◌*◌, ◌/◌, ◌%◌, ◌^◌, ◌≤◌, ◌<◌, true, false, List, [], ◌∷◌, ◌⊎◌, ◌≢◌, ◌≡◌, eqb, length, take, drop}
+use Rattle.std.specs.Prelude.{ℕ, ◌+◌, ◌*◌, ◌/◌, ◌%◌, ◌^◌, ◌≤◌, ◌<◌, true, List, [], ◌∷◌, ◌⊎◌, ◌≢◌, ◌≡◌, length, take, drop}
 use Rattle.crc.specs.Crc.{tag_crc}
 use Rattle.frame.specs.Bytes.{byte, number, part, two_bytes}
 use Rattle.image.specs.Image.{good, view, bank_of, end_of, word_at}

@@ -1,27 +1,25 @@
 -- A call beside a list: which record it adds, and where.
 use Prim.Native.Nat.{ℕ, ◌+◌, ◌≤◌, ◌<◌}
-use borrow.Author.Tests.{leb-true, leb-false, eq-eqb, ne_eqb}
+use borrow.Author.Tests.{leb-false, eq-eqb, ne_eqb}
 use lib.Dec.{eqb, leb}
-use lib.ListN.{length, get_or, get_or-eq_default}
+use lib.ListN.{length, get_or-eq_default}
 use mathlib.Core.Bool.{Bool, true, false, true≢false}
 use mathlib.Core.List.{List, [], ◌∷◌}
 use mathlib.Core.Logic.{◌≢◌}
 use mathlib.Core.Path.{◌≡◌, refl, ap, sym, subst, ◌∙◌}
 use native.Mathlib.Omega.{arith}
 use Rattle.machine.proofs.Listing.{full_stays}
-use Rattle.machine.specs.Lent.{selection_in}
-use Rattle.calls.specs.Calls.{step_of, Lent, lent_of, lent_by}
+use Rattle.calls.specs.Calls.{step_of, lent_of, lent_by}
 use Rattle.machine.specs.Machine.{State, call, Step, code_at, unchanged, step_unless}
 use Rattle.calls.specs.declared.calling.Called.{Called}
 use Rattle.failures.proofs.Numbers.{none_listed}
 use Rattle.failures.specs.Listing.{as_failure, place_for, record_in, is_list_full, step_beside, failure_beside, Beside}
 use Rattle.failures.specs.Records.{blank, record_of, failure_for, failure_of}
 use Rattle.failures.specs.declared.listing.Failure.{Failure}
-use Rattle.failures.specs.declared.listing.Listed.{Listed}
 use Rattle.failures.specs.declared.record.Record.{Record}
 use Rattle.frame.proofs.Picks.{by_test, pick_true, pick_false}
 use Rattle.frame.proofs.Tests.{either}
-use Rattle.frame.specs.Bytes.{pick, byte}
+use Rattle.frame.specs.Bytes.{byte}
 use Rattle.frame.specs.Finding.{reason_number}
 use Rattle.frame.specs.declared.finding.Reason.{Reason}
 use Rattle.frame.specs.declared.finding.Reason.TheVariants.{NoHeader, WrongType, TooLong, WrongCheck, WrongEnd}

@@ -1,9 +1,9 @@
 -- The bound on calls: while there is room, the calls are those of the crate.
 use Prim.Native.Nat.{ℕ, zero, suc, ◌+◌, ◌≤◌, ◌<◌}
 use lib.Dec.{eqb}
-use lib.ListN.{length, replicate}
+use lib.ListN.{replicate}
 use mathlib.Core.Bool.{Bool, true, false, ◌||◌}
-use mathlib.Core.List.{List, [], ◌∷◌, ◌++◌}
+use mathlib.Core.List.{List, ◌++◌}
 use mathlib.Core.Logic.{◌⊎◌, inl, inr, ⊎_elim}
 use mathlib.Core.Path.{◌≡◌, refl, ap, ap₂, sym, subst, ◌∙◌}
 use native.Mathlib.Omega.{arith}
@@ -17,11 +17,10 @@ use Rattle.machine.specs.Secrecy.{accepted_by as bench_accepted_by, accepted as 
 use Rattle.effects.specs.Secrecy.{Command}
 use Rattle.failures.proofs.Numbers.{room_bench}
 use Rattle.failures.specs.Claims.{count, takes, Bound}
-use Rattle.failures.specs.Machine.{State, Call, call, Step, is_full, bench_step, listed, step, run, after}
+use Rattle.failures.specs.Machine.{State, call, is_full, bench_step, listed, step, run, after}
 use Rattle.failures.specs.Secrecy.{accepted_by, accepted}
 use Rattle.frame.proofs.Picks.{by_test, pick_true, pick_false}
 use Rattle.frame.proofs.Tests.{either, or_cases}
-use Rattle.frame.specs.Bytes.{pick}
 use Rattle.reader.specs.Outcomes.{number_of}
 
 module _ (input : List ℕ) where

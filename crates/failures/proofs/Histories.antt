@@ -1,10 +1,10 @@
 -- The list after a history, and the balance with the tally.
 use Prim.Native.Nat.{ℕ, ◌+◌, ◌≤◌}
-use borrow.Author.Tests.{leb-true, eq-eqb, ne_eqb}
+use borrow.Author.Tests.{leb-true}
 use lib.Dec.{eqb, leb}
 use lib.ListN.{length, drop, length-append, length-drop}
 use lib.Seq.{drop-append-le, drop-append_seam, drop-drop}
-use mathlib.Core.Bool.{Bool, true, false, not, ◌&&◌}
+use mathlib.Core.Bool.{true}
 use mathlib.Core.List.{List, [], ◌∷◌, ◌++◌, append-nil, append_assoc}
 use mathlib.Core.Path.{◌≡◌, refl, ap, sym, subst, ◌∙◌}
 use native.Mathlib.Nat.{zero-add}
@@ -14,10 +14,10 @@ use Rattle.machine.specs.Claims.{count, is_error, is_dropped}
 use Rattle.machine.specs.Machine as Inner
 use Rattle.failures.proofs.Numbers.{done, acknowledges, refuses, full_bench, room_bench, none_listed}
 use Rattle.failures.specs.Claims.{failure_in, failures, acknowledged_in, ListIsHistory, failed, Balance}
-use Rattle.failures.specs.Machine.{State, Call, call, acknowledge, Step, is_full, bench_step, listed, may_acknowledge, step, after}
+use Rattle.failures.specs.Machine.{State, call, acknowledge, Step, is_full, bench_step, listed, may_acknowledge, step, after}
 use Rattle.failures.specs.Records.{failure_for, failure_of}
 use Rattle.failures.specs.declared.record.Record.{Record}
-use Rattle.frame.proofs.Picks.{by_test, pick_true, pick_false}
+use Rattle.frame.proofs.Picks.{pick_true, pick_false}
 use Rattle.frame.proofs.Tests.{either, and_left}
 use Rattle.frame.specs.Bytes.{pick, byte}
 use Rattle.frame.specs.Finding.{reason_number}

@@ -1,22 +1,19 @@
 -- What a call adds to the list.
-use Prim.Native.Nat.{ℕ, ◌+◌}
+use Prim.Native.Nat.{ℕ}
 use borrow.Author.Tests.{eq-eqb, ne_eqb}
-use lib.Dec.{eqb}
-use lib.ListN.{length, drop}
 use mathlib.Core.List.{List, [], ◌∷◌, ◌++◌, append-nil}
 use mathlib.Core.Logic.{◌≢◌}
-use mathlib.Core.Path.{◌≡◌, refl, ap, sym, ◌∙◌}
+use mathlib.Core.Path.{◌≡◌, refl, ap, ◌∙◌}
 use native.Mathlib.Omega.{arith}
 use Rattle.machine.proofs.Secrets.{code_there}
 use Rattle.machine.specs.Machine as Inner
 use Rattle.failures.proofs.Numbers.{none_added}
-use Rattle.failures.specs.Claims.{rest_of, Lists, EachFailureListed}
-use Rattle.failures.specs.Machine.{State, call, Step, bench_step, listed, step}
+use Rattle.failures.specs.Claims.{EachFailureListed}
+use Rattle.failures.specs.Machine.{bench_step, listed, step}
 use Rattle.failures.specs.Records.{record_of, failure_for, failure_of}
 use Rattle.failures.specs.declared.record.Record.{Record}
 use Rattle.frame.proofs.Picks.{pick_true, pick_false}
-use Rattle.frame.specs.Bytes.{pick, byte}
-use Rattle.frame.specs.Finding.{reason_number}
+use Rattle.frame.specs.Bytes.{byte}
 use Rattle.frame.specs.Formats.{code_in}
 use Rattle.reader.specs.Outcomes.{number_of, reason_of}
 use Rattle.reader.specs.declared.outcome.Outcome.{Outcome}

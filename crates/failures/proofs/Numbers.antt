@@ -1,25 +1,25 @@
 -- The answer numbers with a list of failures, and what stays under those that refuse.
 use Prim.Native.Nat.{ℕ, ◌≤◌, ◌<◌}
-use borrow.Author.Tests.{leb-true, leb-false, lt-leb, le-leb, ltb-true, ltb-false, lt-ltb, le-ltb}
+use borrow.Author.Tests.{lt-leb, le-leb, ltb-true, ltb-false}
 use lib.Dec.{leb, ltb}
 use lib.ListN.{length, drop}
-use mathlib.Core.Bool.{Bool, true, false, ◌&&◌}
-use mathlib.Core.List.{List, [], ◌∷◌, ◌++◌, append-nil}
-use mathlib.Core.Logic.{◌⊎◌, ◌≢◌, ⊎_elim}
-use mathlib.Core.Path.{◌≡◌, refl, ap, sym, subst, ◌∙◌}
+use mathlib.Core.Bool.{Bool, true, false}
+use mathlib.Core.List.{List, [], ◌++◌, append-nil}
+use mathlib.Core.Logic.{◌≢◌, ⊎_elim}
+use mathlib.Core.Path.{◌≡◌, refl, ap, sym, ◌∙◌}
 use native.Mathlib.Omega.{arith}
 use Rattle.machine.proofs.Answering.{unless_numbers}
 use Rattle.machine.proofs.Claimed.{nothing_changes as bench-nothing-changes}
 use Rattle.machine.proofs.Listing.{room_step, full_stays}
 use Rattle.machine.specs.Machine as Inner
 use Rattle.machine.specs.Machine.{input_of, rest_of as bench_rest, unchanged}
-use Rattle.failures.specs.Claims.{AnswerNumbers, AcknowledgeNumbers, NothingChanges, Acknowledged, SameAs, WithRoom}
-use Rattle.failures.specs.Machine.{State, state_of, Call, call, acknowledge, Step, is_full, bench_step, listed, may_acknowledge, acknowledged, step}
+use Rattle.failures.specs.Claims.{AnswerNumbers, AcknowledgeNumbers, NothingChanges, Acknowledged, WithRoom}
+use Rattle.failures.specs.Machine.{State, state_of, call, acknowledge, Step, is_full, bench_step, listed, may_acknowledge, acknowledged, step}
 use Rattle.failures.specs.Records.{failure_for, failure_of}
 use Rattle.failures.specs.declared.record.Record.{Record}
-use Rattle.frame.proofs.Picks.{by_test, pick_true, pick_false}
+use Rattle.frame.proofs.Picks.{pick_true, pick_false}
 use Rattle.frame.proofs.Tests.{either}
-use Rattle.frame.specs.Bytes.{pick, first_of}
+use Rattle.frame.specs.Bytes.{first_of}
 use Rattle.reader.specs.Outcomes.{number_of, reason_of}
 use Rattle.reader.specs.declared.outcome.Outcome.{Outcome}
 use Rattle.reader.specs.declared.outcome.Outcome.TheVariants.{Answered, AtEnd, Incomplete, Dropped, PastEnd, BadImage, ShortOutput, FullTally, FullList}

@@ -1,21 +1,18 @@
 -- Demand 3 with the list: two runs that differ in hidden passwords list the same, call by call.
-use Prim.Native.Nat.{ℕ, ◌<◌}
-use lib.ListN.{length}
-use mathlib.Core.Bool.{Bool, true, false}
+use Prim.Native.Nat.{ℕ}
+use mathlib.Core.Bool.{Bool}
 use mathlib.Core.List.{List, [], ◌∷◌, ◌++◌}
 use mathlib.Core.Path.{◌≡◌, refl, ap, ap₂, sym, subst, ◌∙◌}
 use Rattle.machine.proofs.Hiding.{Both}
 use Rattle.machine.proofs.Secrets.{state_in, Stays, Alike, QuietRun, unless_alike, quiet_parts, kept_tag, same_tag, both_at_start}
 use Rattle.machine.specs.Machine as Inner
-use Rattle.effects.specs.Secrecy.{Command}
 use Rattle.failures.proofs.Numbers.{done, refused, acknowledges, refuses}
-use Rattle.failures.specs.Claims.{Premises, with_memory, Demand3}
+use Rattle.failures.specs.Claims.{Demand3}
 use Rattle.failures.specs.Machine.{State, state_of, Call, call, acknowledge, Step, is_full, bench_step, listed, may_acknowledge, step, run}
 use Rattle.failures.specs.Records.{failure_for, failure_of}
 use Rattle.failures.specs.Secrecy.{accepted_by, accepted, SameCall, Throughout}
 use Rattle.failures.specs.declared.record.Record.{Record}
 use Rattle.frame.proofs.Tests.{either}
-use Rattle.frame.specs.Bytes.{pick}
 use Rattle.population.specs.Places.{place_at, image_at}
 use Rattle.population.specs.declared.places.Place.{Place}
 use Rattle.reader.specs.Outcomes.{number_of, reason_of}

@@ -1,13 +1,11 @@
 -- What one call makes of the list, on plain numbers: where the next record goes, and what it is.
 use Rattle.std.specs.Prelude.{ℕ, ◌+◌, Bool, true, false, List, [], ◌∷◌, ◌≡◌, leb, length}
-use Rattle.machine.specs.Lent.{selection_in}
 use Rattle.calls.specs.Calls.{step_of, lent_of, lent_by}
 use Rattle.machine.specs.Machine.{State, call, Step, step_unless}
 use Rattle.failures.specs.Records.{blank, failure_of}
 use Rattle.failures.specs.declared.listing.Failure.{Failure}
 use Rattle.failures.specs.declared.listing.Listed.{Listed}
 use Rattle.failures.specs.declared.record.Record.{Record}
-use Rattle.population.specs.declared.places.Place.{Place}
 
 -- a failure as the code hands it on: whether there is one, and its record
 unfoldable pub as_failure : List Record → Failure

@@ -1,10 +1,10 @@
 -- A frame that is written is found again, whatever stands behind it.
-use Rattle.std.proofs.Common.{◌≡◌, ℕ, ◌+◌, ◌*◌, ◌/◌, ◌%◌, ◌<◌, ◌≤◌, Bool, true, eqb, List, [], ◌∷◌, ◌++◌, length, get_or, take, drop, sym, refl, ap, ◌∙◌, append_assoc, arith, length-append, take_at, get_or-append-add, eq-eqb}
+use Rattle.std.proofs.Common.{◌≡◌, ℕ, ◌+◌, ◌/◌, ◌%◌, ◌<◌, ◌≤◌, Bool, true, eqb, List, [], ◌∷◌, ◌++◌, length, get_or, sym, refl, ap, ◌∙◌, append_assoc, arith, length-append, take_at, get_or-append-add, eq-eqb}
 use Rattle.frame.proofs.Rules.{find_accept}
 use Rattle.frame.specs.Bytes.{byte, number, bytes_of, part}
-use Rattle.frame.specs.Claims.{ReadBack, RoundTrip}
+use Rattle.frame.specs.Claims.{RoundTrip}
 use Rattle.frame.specs.Finding.{find}
-use Rattle.frame.specs.Formats.{reader_frames, commands, code_in, pl_in, parameters_in, sum_right, last_right}
+use Rattle.frame.specs.Formats.{reader_frames, code_in, pl_in, parameters_in, sum_right, last_right}
 use Rattle.frame.specs.Frames.{check_of, checked, frame_of, longest_command}
 use Rattle.frame.specs.declared.finding.Found.TheVariants.{Accept}
 

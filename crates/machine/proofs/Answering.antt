@@ -17,9 +17,9 @@ use Rattle.machine.specs.Claims.{AnswerNumbers, DropReasons, NothingChanges, Dro
 use Rattle.machine.specs.Machine.{State, state_of, Call, Step, code_at, aim_job, command_job, found_job, find_job, hand_out, waiting, decide, unchanged, dropped, told, selecting, missed, acted, aimed, carried_out, input_of, rest_of, step, is_refused, unless, step_unless}
 use Rattle.machine.specs.Secrecy.{is_none}
 use Rattle.machine.specs.declared.deciding.Job.{Job}
-use Rattle.machine.specs.declared.deciding.Job.TheVariants.{Stay, DropByte, Select, Miss, Aim}
+use Rattle.machine.specs.declared.deciding.Job.TheVariants.{Stay, Select}
 use Rattle.frame.proofs.Finds.{find_reason}
-use Rattle.frame.proofs.Picks.{pick_or, pick_true, pick_false, by_test}
+use Rattle.frame.proofs.Picks.{pick_or, pick_false, by_test}
 use Rattle.frame.specs.Bytes.{pick, first_of, byte, number, part}
 use Rattle.frame.specs.Finding.{find}
 use Rattle.frame.specs.Formats.{commands, pl_in, sum_right, last_right}

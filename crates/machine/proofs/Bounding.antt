@@ -1,11 +1,11 @@
 -- The bound on calls: a call that takes something lowers the work that is left, and all but an accepted inventory lower bytes and tags left together.
-use Prim.Native.Nat.{ℕ, zero, suc, ◌+◌, ◌-◌, ◌*◌, ◌/◌, ◌≤◌, ◌<◌}
-use borrow.Author.Tests.{ne_eqb, eqb-true, eqb-false}
+use Prim.Native.Nat.{ℕ, zero, suc, ◌+◌, ◌-◌, ◌*◌, ◌≤◌, ◌<◌}
+use borrow.Author.Tests.{ne_eqb, eqb-false}
 use lib.Dec.{eqb}
 use lib.ListN.{length, drop, replicate, length-drop}
-use mathlib.Core.Bool.{Bool, true, false, ◌&&◌, ◌||◌, true≢false}
+use mathlib.Core.Bool.{true, false, ◌&&◌, ◌||◌, true≢false}
 use mathlib.Core.List.{List, [], ◌∷◌, ◌++◌}
-use mathlib.Core.Logic.{◌⊎◌, ◌≢◌, inl, inr, ⊎_elim}
+use mathlib.Core.Logic.{◌⊎◌, inl, inr, ⊎_elim}
 use mathlib.Core.Path.{◌≡◌, refl, ap, sym, subst, ◌∙◌}
 use native.Mathlib.Omega.{arith}
 use Rattle.reader.proofs.Counts.{total, one_answer_most, dropped_most}
@@ -13,7 +13,6 @@ use Rattle.reader.specs.Readers.{fresh_reader}
 use Rattle.reader.specs.Outcomes.{number_of}
 use Rattle.effects.specs.Secrecy.{Command}
 use Rattle.reader.specs.declared.outcome.Outcome.{Outcome}
-use Rattle.reader.specs.declared.outcome.Outcome.TheVariants.{Answered}
 use Rattle.machine.proofs.Answering.{selecting_answers, nothing_changes}
 use Rattle.machine.proofs.Jobs.{tested}
 use Rattle.machine.proofs.Lowests.{lowest_good}
@@ -30,7 +29,7 @@ use Rattle.frame.proofs.FrameBytes.{length_frame, length_written}
 use Rattle.frame.proofs.Picks.{pick_true, pick_false, by_test}
 use Rattle.frame.proofs.Tests.{either, or_neither}
 use Rattle.frame.specs.Bytes.{pick}
-use Rattle.frame.specs.Formats.{code_in, parameters_in}
+use Rattle.frame.specs.Formats.{code_in}
 use Rattle.frame.specs.Frames.{sum, frame_of, frame_length, written}
 use Rattle.image.specs.Image.{good}
 use Rattle.frame.specs.declared.finding.Reason.{Reason}

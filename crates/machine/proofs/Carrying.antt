@@ -1,9 +1,8 @@
 -- What an accepted command comes to: at the lowest tag, with none, or as the selection.
 use Prim.Native.Nat.{ℕ, ◌+◌}
 use borrow.Author.Tests.{ne_eqb}
-use lib.Dec.{eqb}
-use lib.ListN.{length, take, drop}
-use mathlib.Core.Bool.{Bool, true, false}
+use lib.ListN.{length, take}
+use mathlib.Core.Bool.{true}
 use mathlib.Core.List.{List, [], ◌∷◌}
 use mathlib.Core.Logic.{◌≢◌}
 use mathlib.Core.Path.{◌≡◌, refl, ap, ap₂, sym, subst, ◌∙◌}
@@ -15,16 +14,15 @@ use Rattle.machine.proofs.Lowests.{TheLowest, lowest_inside}
 use Rattle.machine.proofs.Secrets.{code_there, parameters_there}
 use Rattle.machine.proofs.Steps.{Accepts, command_at, error_at, found_tag, step_cases}
 use Rattle.machine.specs.Claims.{CarriedOutAt, CommandsAim, AnsweredWithout, CommandsMiss, select_row, SelectionSet, SetSelect}
-use Rattle.machine.specs.Machine.{State, Call, Step, code_at, parameters_at, error_without, unchanged, dropped, told, plain_error, select_taken, selecting, missed, next_after, image_for, act_for, acted, aimed, input_of, rest_of, step}
+use Rattle.machine.specs.Machine.{State, Call, Step, code_at, parameters_at, unchanged, dropped, told, plain_error, select_taken, selecting, missed, next_after, image_for, act_for, acted, aimed, input_of, rest_of}
 use Rattle.machine.specs.declared.deciding.Aimed.{Aimed}
 use Rattle.frame.proofs.FrameBytes.{take_written}
 use Rattle.frame.proofs.Picks.{pick_true, pick_false, by_test}
 use Rattle.frame.proofs.Tests.{either}
-use Rattle.frame.specs.Bytes.{pick, first_of, byte, bytes_of, part}
+use Rattle.frame.specs.Bytes.{first_of, bytes_of}
 use Rattle.frame.specs.Formats.{code_in, pl_in, parameters_in}
 use Rattle.frame.specs.Frames.{sum, check_of, checked, frame_of, frame_length}
 use Rattle.population.proofs.Executes.{inside_there, image_length}
-use Rattle.population.proofs.GoodPopulations.{population_facts}
 use Rattle.population.proofs.Images.{image_same}
 use Rattle.population.proofs.OnePlace.{length_changed}
 use Rattle.population.specs.Places.{inside, image_at}
@@ -35,7 +33,7 @@ use Rattle.population.specs.declared.places.Place.{Place}
 use Rattle.reader.specs.Tallies.{with_good, with_error}
 use Rattle.tag.specs.Answers.{answer, changed, is_error}
 use Rattle.tag.specs.Claims.{comes_to, framed, outcome}
-use Rattle.tag.specs.Commands.{parse, act_of}
+use Rattle.tag.specs.Commands.{act_of}
 use Rattle.tag.specs.declared.commands.Act.{Act}
 
 -- only an inventory leaves tags to hand out

@@ -2,10 +2,10 @@
 use Prim.Native.Nat.{ℕ, ◌+◌}
 use borrow.Author.Tests.{ne_eqb}
 use lib.Dec.{eqb}
-use mathlib.Core.Bool.{Bool, true, false, not}
+use mathlib.Core.Bool.{Bool, true, false}
 use mathlib.Core.List.{List, [], ◌∷◌}
 use mathlib.Core.Logic.{◌≢◌}
-use mathlib.Core.Path.{◌≡◌, refl, ap, sym, ◌∙◌}
+use mathlib.Core.Path.{◌≡◌, refl, sym, ◌∙◌}
 use native.Mathlib.Nat.{add-zero, add_assoc}
 use Rattle.reader.proofs.Counts.{one_more}
 use Rattle.reader.proofs.Counts.{raises}
@@ -20,7 +20,6 @@ use Rattle.frame.proofs.FrameBytes.{code_frame}
 use Rattle.frame.proofs.Picks.{pick_true, pick_false}
 use Rattle.frame.proofs.Tests.{either}
 use Rattle.frame.specs.Bytes.{pick, byte}
-use Rattle.frame.specs.Frames.{frame_of}
 use Rattle.frame.specs.declared.finding.Reason.{Reason}
 use Rattle.population.specs.Selections.{taken}
 use Rattle.reader.specs.Tallies.{full, with_good, with_error}

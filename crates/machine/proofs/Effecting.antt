@@ -1,41 +1,36 @@
 -- The effect of each command, read for a crate: at the tag that it is aimed at, and at no other.
-use Prim.Native.Nat.{ℕ, ◌+◌, ◌≤◌, ◌<◌}
+use Prim.Native.Nat.{ℕ, ◌<◌}
 use borrow.Author.Tests.{eqb-true, eqb-false}
 use lib.Dec.{eqb}
-use lib.ListN.{length, take}
 use mathlib.Core.Bool.{true}
 use mathlib.Core.List.{List, [], ◌∷◌}
 use mathlib.Core.Logic.{◌⊎◌, ◌≢◌, inl, inr, ⊎_elim}
 use mathlib.Core.Path.{◌≡◌, refl, ap, sym, subst, ◌∙◌}
 use native.Mathlib.Omega.{arith}
-use Rattle.machine.proofs.Answering.{selecting_answers}
 use Rattle.machine.proofs.Carrying.{commands_aim}
-use Rattle.machine.proofs.Lowests.{TheLowest, lowest_good}
+use Rattle.machine.proofs.Lowests.{lowest_good}
 use Rattle.machine.proofs.Secrets.{code_there}
 use Rattle.machine.proofs.Staying.{replaced_same, memory_is, aimed_others, hand_out_stores_nothing, selecting_memory, step_good}
-use Rattle.machine.proofs.Steps.{Tested, Accepts, found_tag, hand_out_at, command_at, step_cases}
-use Rattle.machine.specs.Claims.{code_of, parameters_of, Accepting, AimedAt, made_at, WriteEffect, LockEffect, KillEffect, NoOtherEffect, GapsStay, PermalocksStay}
-use Rattle.machine.specs.Machine.{State, Call, Step, code_at, parameters_at, waiting, unchanged, dropped, told, selecting, missed, image_for, act_for, acted, aimed, input_of, rest_of, step, after}
+use Rattle.machine.proofs.Steps.{Tested, found_tag, step_cases}
+use Rattle.machine.specs.Claims.{code_of, parameters_of, AimedAt, made_at, WriteEffect, LockEffect, KillEffect, NoOtherEffect, GapsStay, PermalocksStay}
+use Rattle.machine.specs.Machine.{State, Call, Step, code_at, parameters_at, waiting, unchanged, dropped, told, missed, image_for, act_for, acted, aimed, input_of, rest_of, step, after}
 use Rattle.machine.specs.declared.deciding.Aimed.{Aimed}
 use Rattle.effects.proofs.Claimed as effects
 use Rattle.effects.proofs.Permalocked.{both, same}
 use Rattle.effects.specs.Claims.{Overwritten, Effect, Written, NamedWords, pairs_after, Permalocks}
 use Rattle.frame.proofs.Tests.{either}
-use Rattle.frame.specs.Bytes.{byte, number, part, two_bytes}
+use Rattle.frame.specs.Bytes.{byte, number, two_bytes}
 use Rattle.frame.specs.Formats.{code_in}
-use Rattle.image.specs.Image.{good, view, bank_of, end_of}
+use Rattle.image.specs.Image.{good}
 use Rattle.population.proofs.Executes.{inside_there, image_length}
 use Rattle.population.proofs.GoodPopulations.{population_facts}
 use Rattle.population.proofs.Images.{image_same}
 use Rattle.population.proofs.OnePlace.{length_changed}
-use Rattle.population.specs.Claims.{place_of_tag, image_of}
+use Rattle.population.specs.Claims.{image_of}
 use Rattle.population.specs.Executing.{replaced}
-use Rattle.population.specs.Lowest.{lowest}
 use Rattle.population.specs.Places.{place_at, inside, image_at, good_population}
-use Rattle.population.specs.declared.lowest.Lowest.TheVariants.{NoTag, Tag}
 use Rattle.population.specs.declared.places.Place.{Place}
 use Rattle.reader.specs.Outcomes.{number_of}
-use Rattle.reader.specs.declared.outcome.Outcome.TheVariants.{Answered}
 use Rattle.tag.specs.Answers.{changed}
 use Rattle.tag.specs.Claims.{comes_to, outcome}
 use Rattle.tag.specs.Commands.{act_of}

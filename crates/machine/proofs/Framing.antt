@@ -1,15 +1,14 @@
 -- An answer is one frame, whichever answers it is; and where the cursor stands behind it.
 use Prim.Native.Nat.{ℕ, ◌+◌, ◌≤◌, ◌<◌}
 use lib.ListN.{length, length-drop}
-use mathlib.Core.Bool.{true}
 use mathlib.Core.List.{List, [], ◌∷◌}
-use mathlib.Core.Path.{◌≡◌, refl, ap, sym, ◌∙◌}
+use mathlib.Core.Path.{◌≡◌, refl, ap}
 use native.Mathlib.Omega.{arith}
 use Rattle.reader.specs.Outcomes.{number_of}
 use Rattle.machine.proofs.Lowests.{lowest_good}
-use Rattle.machine.proofs.Steps.{Tested, Accepts, hand_out_at, command_at, error_at, found_tag, frame_inside, step_cases}
+use Rattle.machine.proofs.Steps.{Tested, Accepts, hand_out_at, command_at, found_tag, frame_inside, step_cases}
 use Rattle.machine.specs.Claims.{OneFrame, AnswerIsOneFrame}
-use Rattle.machine.specs.Machine.{State, Call, Step, parameters_at, unchanged, dropped, told, plain_error, select_taken, selecting, missed, image_for, act_for, acted, aimed, input_of, rest_of, waiting, step}
+use Rattle.machine.specs.Machine.{State, Call, Step, parameters_at, unchanged, dropped, told, selecting, missed, image_for, act_for, acted, aimed, input_of, rest_of, waiting, step}
 use Rattle.machine.specs.declared.deciding.Aimed.{Aimed}
 use Rattle.frame.proofs.FrameBytes.{length_frame, length_written, drop_written}
 use Rattle.frame.proofs.Picks.{by_test}
@@ -18,7 +17,6 @@ use Rattle.frame.specs.Frames.{frame_of, frame_length}
 use Rattle.population.specs.Lowest.{lowest}
 use Rattle.population.specs.Places.{image_at}
 use Rattle.population.specs.Selections.{taken}
-use Rattle.population.specs.declared.lowest.Lowest.{Lowest}
 use Rattle.population.specs.declared.lowest.Lowest.TheVariants.{NoTag, Tag}
 use Rattle.population.specs.declared.places.Place.{Place}
 use Rattle.reader.specs.declared.state.Reader.{Reader}

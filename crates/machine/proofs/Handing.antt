@@ -3,19 +3,17 @@ use Prim.Native.Nat.{ℕ, zero, suc, ◌+◌, ◌-◌, ◌≤◌, ◌<◌}
 use borrow.Author.Tests.{ne_eqb, eqb-true, eqb-false}
 use lib.Dec.{eqb}
 use lib.ListN.{length, take, drop}
-use mathlib.Core.Bool.{Bool, true, false, ◌&&◌, true≢false}
+use mathlib.Core.Bool.{Bool, true, ◌&&◌}
 use mathlib.Core.List.{List, [], ◌∷◌, ◌++◌, append_assoc}
-use mathlib.Core.Logic.{◌≢◌}
 use mathlib.Core.Path.{◌≡◌, refl, ap, ap₂, sym, subst, ◌∙◌}
 use native.Mathlib.Omega.{arith}
 use Rattle.reader.specs.Outcomes.{number_of}
-use Rattle.reader.specs.Readers.{reader_of}
 use Rattle.effects.specs.Secrecy.{Command}
 use Rattle.reader.specs.declared.outcome.Outcome.{Outcome}
 use Rattle.reader.specs.declared.outcome.Outcome.TheVariants.{Answered}
 use Rattle.machine.proofs.Answering.{selecting_answers}
 use Rattle.machine.proofs.Lowests.{TheLowest, lowest_inside}
-use Rattle.machine.proofs.Secrets.{code_there, parameters_there}
+use Rattle.machine.proofs.Secrets.{code_there}
 use Rattle.machine.proofs.Staying.{replaced_same, present_notifies, selected_present, hand_out_notifies, hand_out_stores_nothing, step_good}
 use Rattle.machine.proofs.Steps.{Tested, found_tag, hand_out_at, command_at, step_cases}
 use Rattle.machine.specs.Claims.{HandsOut, HandOut, passing, is_candidate, candidates, number_in, handed_by, handed, ExactlyOnce, InventoryStarts}
@@ -29,16 +27,13 @@ use Rattle.frame.specs.Bytes.{pick, byte, part}
 use Rattle.frame.specs.Formats.{code_in, pl_in, parameters_in}
 use Rattle.population.proofs.Claimed.{lowest_tag}
 use Rattle.population.proofs.Firsts.{NonePasses}
-use Rattle.population.proofs.GoodPopulations.{PopulationFacts, population_facts}
-use Rattle.population.proofs.Selects.{lowest_cases}
+use Rattle.population.proofs.GoodPopulations.{population_facts}
 use Rattle.population.specs.Executing.{replaced}
-use Rattle.population.specs.Lowest.{selected_image, selected, selected_at, lowest}
+use Rattle.population.specs.Lowest.{selected_image, selected, selected_at}
 use Rattle.population.specs.Places.{place_at, inside, image_at, good_population}
-use Rattle.population.specs.declared.lowest.Lowest.{Lowest}
 use Rattle.population.specs.declared.lowest.Lowest.TheVariants.{NoTag, Tag}
 use Rattle.population.specs.declared.places.Place.{Place}
 use Rattle.reader.proofs.Tallies.{not_full, raised_below}
-use Rattle.reader.specs.Tallies.{with_good, with_error}
 use Rattle.tag.specs.Answers.{answer, changed, is_error}
 use Rattle.tag.specs.Claims.{outcome}
 use Rattle.tag.specs.Commands.{act_of}

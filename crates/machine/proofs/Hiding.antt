@@ -5,12 +5,11 @@ use lib.ListN.{length}
 use mathlib.Core.Bool.{Bool, true, false, ◌&&◌}
 use mathlib.Core.List.{List}
 use mathlib.Core.Logic.{◌⊎◌, inl, inr, ⊎_elim}
-use mathlib.Core.Path.{◌≡◌, refl, ap, ap₂, sym, subst, ◌∙◌}
+use mathlib.Core.Path.{◌≡◌, ap, ap₂, sym, subst, ◌∙◌}
 use Rattle.effects.proofs.Quiet.{Public, Untold, public_act, same_act}
 use Rattle.effects.proofs.Secret.{Pair, sight, same_answer, pair_after}
 use Rattle.effects.specs.Secrecy.{Hidden, Command}
 use Rattle.machine.proofs.Choosing.{Blind, same_selected}
-use Rattle.frame.specs.Bytes.{reaches}
 use Rattle.image.specs.Image.{good, view}
 use Rattle.population.proofs.Executes.{image_length}
 use Rattle.population.proofs.GoodPopulations.{PopulationFacts, good_still}
@@ -19,7 +18,7 @@ use Rattle.population.proofs.Selects.{lowest_same}
 use Rattle.population.proofs.TwoMemories.{Related, related_still}
 use Rattle.population.specs.Executing.{replaced}
 use Rattle.population.specs.Lowest.{selected_image, selected, selected_at, lowest}
-use Rattle.population.specs.Places.{place_at, inside, image_at}
+use Rattle.population.specs.Places.{place_at, image_at}
 use Rattle.population.specs.declared.places.Place.{Place}
 use Rattle.tag.proofs.StaysGood.{stays_good}
 use Rattle.tag.specs.Answers.{answer, changed}

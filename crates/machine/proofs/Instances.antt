@@ -1,5 +1,5 @@
 -- What is computed: the starred cases, and a crate of three tags that meets demand 3's premises.
-use Prim.Native.Nat.{ℕ, zero, suc, ◌+◌, ◌≤◌, ◌<◌}
+use Prim.Native.Nat.{ℕ, zero, suc, ◌≤◌, ◌<◌}
 use borrow.Author.Tests.{leb-true, leb-false}
 use lib.Dec.{leb}
 use lib.ListN.{length, replicate, get_or-eq_default}
@@ -10,7 +10,7 @@ use mathlib.Core.Logic.{◌≢◌, inl}
 use mathlib.Core.Path.{◌≡◌, refl, ap, sym, subst, ◌∙◌}
 use native.Mathlib.Omega.{arith}
 use Rattle.machine.proofs.Computed.{opened}
-use Rattle.machine.specs.Claims.{Starred, passing, number_in, handed_by, handed, Premises, with_memory, PremisesMet, Demand3CanBeMet}
+use Rattle.machine.specs.Claims.{Starred, passing, number_in, handed_by, handed, Premises, with_memory, Demand3CanBeMet}
 use Rattle.machine.specs.Machine.{State, state_of, Call, call, after}
 use Rattle.machine.specs.Secrecy.{accepted, MayDiffer, Outside}
 use Rattle.effects.specs.Sample.{sample}

@@ -8,10 +8,9 @@ use mathlib.Core.List.{List, ◌∷◌}
 use mathlib.Core.Path.{◌≡◌, refl, ap, sym, ◌∙◌}
 use native.Mathlib.Nat.{add_assoc}
 use native.Mathlib.Omega.{arith}
-use Rattle.reader.specs.declared.outcome.Outcome.TheVariants.{AtEnd, Incomplete, PastEnd, BadImage, ShortOutput, FullTally, FullList}
+use Rattle.reader.specs.declared.outcome.Outcome.TheVariants.{AtEnd, Incomplete, PastEnd, BadImage, ShortOutput, FullTally}
 use Rattle.machine.specs.Lent.{selection_in}
 use Rattle.machine.specs.Machine.{State, code_at, parameters_at, error_without, aim_job, command_job, found_job, find_job, hand_out, waiting, decide}
-use Rattle.machine.specs.declared.deciding.Aimed.{Aimed}
 use Rattle.machine.specs.declared.deciding.Job.{Job}
 use Rattle.machine.specs.declared.deciding.Job.TheVariants.{Stay, DropByte, Select, Miss, Aim}
 use Rattle.frame.proofs.Accepting.{accepted}

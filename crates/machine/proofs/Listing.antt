@@ -8,8 +8,8 @@ use lib.ListN.{length}
 use mathlib.Core.Path.{◌≡◌, refl, ap, sym, ◌∙◌}
 use native.Mathlib.Omega.{arith}
 use Rattle.machine.proofs.Jobs.{tested}
-use Rattle.machine.proofs.Steps.{Tested, tested_cases}
-use Rattle.machine.specs.Machine.{State, Call, Step, decide, carried_out, input_of, unchanged, step, is_refused, unless, step_unless}
+use Rattle.machine.proofs.Steps.{tested_cases}
+use Rattle.machine.specs.Machine.{State, Call, decide, carried_out, input_of, unchanged, step, is_refused, unless, step_unless}
 use Rattle.machine.specs.declared.deciding.Job.{Job}
 use Rattle.machine.specs.declared.deciding.Job.TheVariants.{Stay, DropByte, Select, Miss, Aim}
 use Rattle.frame.proofs.Picks.{by_test, pick_true, pick_false}

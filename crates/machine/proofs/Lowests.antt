@@ -11,7 +11,7 @@ use Rattle.population.proofs.Selects.{lowest_cases}
 use Rattle.population.specs.Lowest.{selected_at, lowest}
 use Rattle.population.specs.Places.{place_at, inside, image_at, good_population}
 use Rattle.population.specs.declared.lowest.Lowest.{Lowest}
-use Rattle.population.specs.declared.lowest.Lowest.TheVariants.{NoTag, Tag}
+use Rattle.population.specs.declared.lowest.Lowest.TheVariants.{Tag}
 use Rattle.population.specs.declared.places.Place.{Place}
 
 module _ (memory : List ℕ) (tags : ℕ) (places : List Place) (selection : List ℕ) (start : ℕ) where

@@ -1,28 +1,26 @@
 -- Demand 3 for a crate: two runs on memories that are equal but for the hidden passwords of some tags, with no command accepted that carries one of these, are the
 -- same call by call.
 use Prim.Native.Nat.{ℕ, ◌+◌, ◌<◌}
-use lib.Dec.{eqb, ltb}
+use lib.Dec.{eqb}
 use lib.ListN.{length, take, drop, get_or}
 use lib.Seq.{get_or-drop, drop-drop}
-use mathlib.Core.Bool.{Bool, true, false, not, ◌&&◌, true≢false}
+use mathlib.Core.Bool.{Bool, true, false, true≢false}
 use mathlib.Core.List.{List, [], ◌∷◌, ◌++◌}
-use mathlib.Core.Logic.{◌⊎◌, inl, inr, ⊎_elim}
+use mathlib.Core.Logic.{inl, inr, ⊎_elim}
 use mathlib.Core.Path.{◌≡◌, refl, ap, ap₂, sym, subst, ◌∙◌}
-use native.Mathlib.Omega.{arith}
 use Rattle.effects.proofs.Quiet.{Untold, untold}
 use Rattle.effects.proofs.Secret.{none_append}
 use Rattle.reader.specs.Outcomes.{number_of, reason_of}
 use Rattle.reader.specs.Readers.{reader_of}
-use Rattle.effects.specs.Secrecy.{passwords_at, Command, carries_none, none_carries}
+use Rattle.effects.specs.Secrecy.{passwords_at, Command, none_carries}
 use Rattle.reader.specs.declared.outcome.Outcome.{Outcome}
 use Rattle.reader.specs.declared.outcome.Outcome.TheVariants.{FullList}
 use Rattle.machine.proofs.Choosing.{Blind, good_blind}
 use Rattle.machine.proofs.Listing.{step_with_room}
-use Rattle.machine.proofs.Hiding.{Secret, AlikeTag, Silent, ActedAlike, TagAlike, Both, Quiet, lowest_alike, acts, act_keeps}
-use Rattle.machine.proofs.Lowests.{TheLowest}
-use Rattle.machine.proofs.Steps.{Tested, Accepts, lowest_tag, hand_out_at, command_at, error_at, found_tag, job_cases}
-use Rattle.machine.specs.Claims.{Demand3, Premises, with_memory}
-use Rattle.machine.specs.Machine.{State, state_of, Call, call, Step, code_at, parameters_at, command_job, aim_job, found_job, find_job, hand_out, waiting, decide, unchanged, dropped, told, selecting, missed, next_after, image_for, act_for, acted, aimed, carried_out, input_of, rest_of, step, run, counted, is_refused, unless, step_unless}
+use Rattle.machine.proofs.Hiding.{TagAlike, Both, Quiet, lowest_alike, acts, act_keeps}
+use Rattle.machine.proofs.Steps.{Accepts, hand_out_at, command_at, found_tag, job_cases}
+use Rattle.machine.specs.Claims.{Demand3}
+use Rattle.machine.specs.Machine.{State, state_of, Call, call, Step, code_at, command_job, aim_job, found_job, find_job, hand_out, waiting, decide, unchanged, dropped, told, selecting, missed, next_after, image_for, act_for, acted, aimed, carried_out, input_of, rest_of, step, run, counted, is_refused, unless, step_unless}
 use Rattle.machine.specs.Secrecy.{is_none, accepted_by, accepted, MayDiffer, PasswordsStay, SameCall, Throughout, Outside}
 use Rattle.machine.specs.declared.deciding.Aimed.{Aimed}
 use Rattle.machine.specs.declared.deciding.Job.{Job}
@@ -32,18 +30,17 @@ use Rattle.frame.proofs.Picks.{by_test, pick_true, pick_false}
 use Rattle.frame.proofs.Tests.{either, and_left}
 use Rattle.frame.specs.Bytes.{pick, all, byte, part}
 use Rattle.frame.specs.Finding.{find}
-use Rattle.frame.specs.Formats.{commands, code_in, pl_in, parameters_in}
+use Rattle.frame.specs.Formats.{commands, code_in, parameters_in}
 use Rattle.frame.specs.Frames.{written}
 use Rattle.frame.specs.declared.finding.Found.{Found}
 use Rattle.frame.specs.declared.finding.Found.TheVariants.{End, Drop, Wait, Accept}
 use Rattle.frame.specs.declared.finding.Reason.{Reason}
 use Rattle.population.proofs.GoodPopulations.{population_facts, population_holds}
-use Rattle.population.proofs.TwoMemories.{Related}
 use Rattle.population.specs.Lowest.{lowest}
 use Rattle.population.specs.Places.{place_at, image_at, good_population}
 use Rattle.population.specs.Selections.{taken, good_selection}
 use Rattle.population.specs.declared.lowest.Lowest.{Lowest}
-use Rattle.population.specs.declared.lowest.Lowest.TheVariants.{NoTag, Tag}
+use Rattle.population.specs.declared.lowest.Lowest.TheVariants.{NoTag}
 use Rattle.population.specs.declared.places.Place.{Place}
 use Rattle.reader.specs.declared.state.Reader.{Reader}
 use Rattle.tag.specs.declared.commands.Act.{Act}

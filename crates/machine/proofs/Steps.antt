@@ -1,18 +1,18 @@
 -- One step, by cases: nothing changes, a byte is dropped, a tag is handed out, or a command is answered, by the reader, with no tag, or by a tag.
-use Prim.Native.Nat.{ℕ, ◌+◌, ◌≤◌, ◌<◌}
-use borrow.Author.Tests.{ltb-false, le-ltb, not-false, eqb-true, eqb-false}
+use Prim.Native.Nat.{ℕ, ◌+◌, ◌≤◌}
+use borrow.Author.Tests.{ltb-false, not-false, eqb-true, eqb-false}
 use lib.Dec.{eqb, ltb}
 use lib.ListN.{length, drop, length-drop}
-use mathlib.Core.Bool.{Bool, true, false, not}
+use mathlib.Core.Bool.{true, false, not}
 use mathlib.Core.List.{List, []}
 use mathlib.Core.Logic.{◌≢◌}
-use mathlib.Core.Path.{◌≡◌, refl, ap, sym, subst, ◌∙◌}
+use mathlib.Core.Path.{◌≡◌, refl}
 use native.Mathlib.Omega.{arith}
 use Rattle.reader.specs.Outcomes.{number_of}
 use Rattle.reader.specs.declared.outcome.Outcome.{Outcome}
-use Rattle.reader.specs.declared.outcome.Outcome.TheVariants.{AtEnd, Incomplete, PastEnd, BadImage, ShortOutput, FullTally, FullList}
-use Rattle.machine.proofs.Lowests.{TheLowest, the_lowest, lowest_inside, lowest_good}
-use Rattle.machine.specs.Machine.{State, Call, call, Step, code_at, parameters_at, error_without, aim_job, command_job, found_job, find_job, hand_out, waiting, decide, unchanged, dropped, selecting, missed, aimed, carried_out, input_of, rest_of, step, is_refused, unless, step_unless}
+use Rattle.reader.specs.declared.outcome.Outcome.TheVariants.{AtEnd, Incomplete, PastEnd, BadImage, ShortOutput, FullTally}
+use Rattle.machine.proofs.Lowests.{TheLowest, the_lowest}
+use Rattle.machine.specs.Machine.{State, Call, Step, code_at, parameters_at, error_without, aim_job, command_job, found_job, find_job, hand_out, waiting, decide, unchanged, dropped, selecting, missed, aimed, carried_out, input_of, rest_of, step}
 use Rattle.machine.specs.declared.deciding.Aimed.{Aimed}
 use Rattle.machine.specs.declared.deciding.Job.{Job}
 use Rattle.machine.specs.declared.deciding.Job.TheVariants.{Stay, DropByte, Select, Miss, Aim}

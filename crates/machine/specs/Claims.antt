@@ -2,16 +2,15 @@
 -- statement is proved in proofs/Claimed.antt.
 use Rattle.std.specs.Prelude.{ℕ, zero, suc, ◌+◌, ◌-◌, ◌*◌, ◌%◌, ◌≤◌, ◌<◌, Bool, true, false, not, ◌&&◌, ◌||◌, List, [], ◌∷◌, ◌++◌, map, ◌⊎◌, ◌≢◌, ◌≡◌, eqb, leb, ltb, length, take, drop, replicate}
 use Rattle.reader.specs.Outcomes.{number_of, reason_of}
-use Rattle.reader.specs.Readers.{reader_of}
 use Rattle.effects.specs.Claims.{Overwritten, Effect, Written, NamedWords, pairs_after, Permalocks}
 use Rattle.effects.specs.Secrecy.{Command}
 use Rattle.machine.specs.Machine.{State, state_of, Call, call, Step, input_of, rest_of, waiting, step, work, run, after}
-use Rattle.machine.specs.Secrecy.{is_none, accepted_by, accepted, MayDiffer, Outside, SameCall, Throughout}
+use Rattle.machine.specs.Secrecy.{is_none, accepted, MayDiffer, Outside, SameCall, Throughout}
 use Rattle.machine.specs.Starred.{cases, given, expected}
 use Rattle.frame.specs.Bytes.{pick, first_of, byte, number, part, two_bytes}
 use Rattle.frame.specs.Frames.{sum}
 use Rattle.image.specs.Image.{view, bank_of, end_of, kill_password, access_password}
-use Rattle.population.specs.Claims.{Holds, place_of_tag, image_of, Candidate, LowestRules}
+use Rattle.population.specs.Claims.{Holds, place_of_tag, image_of, LowestRules}
 use Rattle.population.specs.Lowest.{lowest}
 use Rattle.population.specs.Matching.{matches}
 use Rattle.population.specs.Places.{good_population}
@@ -20,7 +19,6 @@ use Rattle.population.specs.declared.lowest.Lowest.{Lowest}
 use Rattle.population.specs.declared.lowest.Lowest.TheVariants.{NoTag, Tag}
 use Rattle.population.specs.declared.places.Place.{Place}
 use Rattle.reader.specs.Readers.{fresh_reader}
-use Rattle.reader.specs.declared.state.Reader.{Reader}
 use Rattle.tag.specs.Claims.{comes_to, framed}
 use Rattle.tag.specs.Locks.{pairs, bits_of}
 

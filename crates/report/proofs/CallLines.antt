@@ -5,7 +5,6 @@ use lib.ListN.{length, take}
 use mathlib.Core.Bool.{Bool, false}
 use mathlib.Core.List.{List}
 use mathlib.Core.Path.{◌≡◌, ap, sym, subst, ◌∙◌}
-use native.Mathlib.Omega.{arith}
 use Rattle.reader.specs.Outcomes.{number_of}
 use Rattle.reader.specs.declared.outcome.Outcome.{Outcome}
 use Rattle.reader.specs.declared.outcome.Outcome.TheVariants.{Answered}
@@ -19,7 +18,6 @@ use Rattle.failures.specs.Listing.{is_list_full, Beside}
 use Rattle.failures.specs.declared.listing.Listed.{Listed}
 use Rattle.failures.specs.declared.record.Record.{Record}
 use Rattle.frame.specs.Bytes.{byte}
-use Rattle.population.specs.declared.places.Place.{Place}
 use Rattle.reader.specs.declared.tally.Tally.{Tally}
 use Rattle.report.specs.Lines.{drop_line, line_for, line_of, ends}
 use Rattle.report.specs.Writing.{Line, Framed, Printable, Printed, OneLine}

@@ -1,12 +1,11 @@
 -- Files that lie one behind the other: no place leaves the memory, and no two overlap.
 use Prim.Native.Nat.{ℕ, zero, suc, ◌+◌, ◌-◌, ◌≤◌, ◌<◌}
 use borrow.Author.Tests.{eqb-true, eqb-false, leb-true, leb-false, le-ltb}
-use lib.Dec.{eqb, leb, ltb}
+use lib.Dec.{eqb, leb}
 use lib.ListN.{length, take, get_or, set, length-set}
 use lib.Seq.{get_or-set_same, get_or-set_other}
 use mathlib.Core.Bool.{true}
 use mathlib.Core.List.{List, [], ◌∷◌}
-use mathlib.Core.Logic.{◌≢◌}
 use mathlib.Core.Path.{◌≡◌, refl, ap, sym, subst, ◌∙◌}
 use native.Mathlib.Nat.{add-zero, add-suc}
 use native.Mathlib.Omega.{arith}
@@ -18,7 +17,7 @@ use Rattle.frame.specs.Frames.{sum}
 use Rattle.image.specs.Image.{good}
 use Rattle.population.proofs.GoodPopulations.{PopulationFacts, population_facts, population_holds}
 use Rattle.population.proofs.Overlaps.{apart_first, apart_second}
-use Rattle.population.specs.Places.{nowhere, place_at, inside, image_at, apart, good_population}
+use Rattle.population.specs.Places.{nowhere, place_at, inside, image_at}
 use Rattle.population.specs.declared.places.Place.{Place}
 use Rattle.report.specs.Claims.{GoodFiles}
 use Rattle.report.specs.Report.{place_in, laid_out, places_of}

@@ -1,5 +1,5 @@
 -- Pieces one behind the other are the report, and the claims on the report in pieces.
-use Prim.Native.Nat.{ℕ, zero, suc, ◌+◌, ◌-◌, ◌*◌, ◌/◌, ◌≤◌}
+use Prim.Native.Nat.{ℕ, zero, suc, ◌+◌, ◌*◌, ◌/◌, ◌≤◌}
 use borrow.Author.Tests.{eq-eqb}
 use lib.ListN.{length, replicate}
 use mathlib.Core.Bool.{Bool, true, false}

@@ -1,5 +1,5 @@
 -- The whole report: lines of calls that take bytes, then one line that ends it.
-use Prim.Native.Nat.{ℕ, zero, suc, ◌+◌, ◌*◌, ◌≤◌}
+use Prim.Native.Nat.{ℕ, zero, suc, ◌+◌, ◌≤◌}
 use borrow.Author.Tests.{ltb-false, le-ltb}
 use lib.Dec.{ltb}
 use lib.ListN.{length, replicate}
@@ -12,8 +12,7 @@ use Rattle.machine.proofs.Claimed.{bound}
 use Rattle.machine.specs.Claims.{answer_of, count, takes}
 use Rattle.reader.specs.Outcomes.{number_of}
 use Rattle.machine.specs.Machine.{State, call, Step, waiting, unchanged, decide, carried_out, input_of, step, run, after}
-use Rattle.reader.specs.declared.outcome.Outcome.{Outcome}
-use Rattle.reader.specs.declared.outcome.Outcome.TheVariants.{Answered, AtEnd, Incomplete, Dropped, PastEnd, BadImage, ShortOutput, FullTally, FullList}
+use Rattle.reader.specs.declared.outcome.Outcome.TheVariants.{BadImage}
 use Rattle.frame.proofs.Picks.{by_test, pick_true, pick_false}
 use Rattle.frame.proofs.Tests.{either, or_neither}
 use Rattle.frame.specs.Bytes.{pick}

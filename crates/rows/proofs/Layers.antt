@@ -1,21 +1,18 @@
 -- Texts laid one after the other over rows that stand in a buffer.
-use Prim.Native.Nat.{ℕ, ◌+◌, ◌-◌, ◌*◌, ◌/◌, ◌%◌, ◌≤◌, ◌<◌}
-use borrow.Author.Tests.{leb-true, leb-false, le-leb, lt-leb}
+use Prim.Native.Nat.{ℕ, ◌+◌, ◌-◌, ◌*◌, ◌/◌, ◌≤◌, ◌<◌}
+use borrow.Author.Tests.{leb-true, le-leb, lt-leb}
 use lib.Dec.{eqb, leb}
 use lib.ListN.{length, length-append}
 use lib.Seq.{sets, length-sets}
-use mathlib.Core.Bool.{true, false}
 use mathlib.Core.List.{List, ◌++◌}
 use mathlib.Core.Path.{◌≡◌, refl, ap, sym, ◌∙◌}
 use native.Mathlib.Omega.{arith}
 use Rattle.frame.proofs.Picks.{by_test, pick_true, pick_false}
 use Rattle.frame.proofs.Tests.{either}
-use Rattle.frame.specs.Bytes.{pick}
 use Rattle.frame.specs.Putting.{Put}
-use Rattle.reader.specs.declared.tally.Tally.{Tally}
 use Rattle.text.proofs.Overlays.{overlay}
 use Rattle.rows.specs.Columns.{boxed_row, plain_row, blank_rows, number_place, numbered}
-use Rattle.rows.specs.Rows.{is_some, reasons_in, cell_place, cell_text, with_cell, with_reasons}
+use Rattle.rows.specs.Rows.{is_some, cell_place, cell_text, with_cell}
 use Rattle.text.proofs.Laying.{laid_put}
 use Rattle.text.proofs.Puts.{put_join}
 use Rattle.text.proofs.Decimals.{length_decimal}

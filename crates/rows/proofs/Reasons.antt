@@ -8,12 +8,10 @@ use mathlib.Core.List.{List, ◌++◌}
 use mathlib.Core.Path.{◌≡◌, refl, sym, ◌∙◌}
 use native.Mathlib.Omega.{arith}
 use Rattle.frame.proofs.Picks.{by_test, pick_true, pick_false}
-use Rattle.frame.specs.Bytes.{pick}
 use Rattle.frame.specs.Putting.{Put}
 use Rattle.reader.specs.declared.tally.Tally.{Tally}
 use Rattle.text.proofs.Chains.{laid_by, more_by}
-use Rattle.rows.proofs.Layers.{blank_long, cell}
-use Rattle.rows.specs.Columns.{blank_rows}
+use Rattle.rows.proofs.Layers.{cell}
 use Rattle.rows.specs.Rows.{is_some, reasons_in, cell_place, cell_text, with_cell, with_reasons}
 use Rattle.text.specs.Digits.{decimal}
 use Rattle.text.specs.Laying.{Laid}

@@ -1,15 +1,13 @@
 -- The texts of an item's columns, put piece behind piece, and its rows.
-use Prim.Native.Nat.{ℕ, ◌+◌, ◌-◌, ◌*◌, ◌/◌, ◌≤◌, ◌<◌}
+use Prim.Native.Nat.{ℕ, ◌+◌, ◌-◌, ◌≤◌}
 use borrow.Author.Tests.{eq-eqb, ne_eqb}
 use lib.Dec.{eqb}
 use lib.ListN.{length}
 use lib.Seq.{sets, length-sets}
-use mathlib.Core.Bool.{true, false}
-use mathlib.Core.List.{List, [], ◌∷◌, ◌++◌}
-use mathlib.Core.Path.{◌≡◌, refl, ap, sym, ◌∙◌}
+use mathlib.Core.List.{List, ◌++◌}
+use mathlib.Core.Path.{◌≡◌, ◌∙◌}
 use native.Mathlib.Omega.{arith}
 use Rattle.frame.proofs.Picks.{by_test, pick_true, pick_false}
-use Rattle.frame.specs.Bytes.{pick}
 use Rattle.frame.specs.Putting.{Put}
 use Rattle.naming.specs.Commands.{command_text}
 use Rattle.naming.specs.Errors.{error_text}
@@ -18,7 +16,7 @@ use Rattle.text.proofs.Chains.{PutBy, laid_by, more_by}
 use Rattle.rows.proofs.Layers.{length_boxed, blank_long, blank_least, blank_most, Based, lay, number}
 use Rattle.rows.proofs.Reasons.{some_one, length_reasons, Short, reasons_put}
 use Rattle.rows.specs.Columns.{boxed_row, blank_rows, number_place, numbered}
-use Rattle.rows.specs.Rows.{range_text, bytes_text, is_some, reasons_in, with_reasons, dropped_in, error_row, drop_rows, item_rows, waiting_row}
+use Rattle.rows.specs.Rows.{range_text, bytes_text, reasons_in, with_reasons, dropped_in, error_row, drop_rows, item_rows, waiting_row}
 use Rattle.rows.specs.declared.items.Item.{Item}
 use Rattle.tag.specs.declared.commands.Parsed.{Parsed}
 use Rattle.text.proofs.Laying.{within_put}

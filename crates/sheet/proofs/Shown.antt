@@ -1,5 +1,5 @@
 -- What a row shows of a command, over the bytes of its frame; rows one behind the other; and where the sheet begins.
-use Prim.Native.Nat.{ℕ, ◌+◌}
+use Prim.Native.Nat.{ℕ}
 use lib.ListN.{length}
 use lib.Seq.{get_or-append-add, drop-append-add, drop-append_seam}
 use mathlib.Core.List.{List, ◌++◌}

@@ -8,7 +8,6 @@ use mathlib.Core.Bool.{Bool, true, false, not, ◌&&◌}
 use mathlib.Core.List.{List, [], ◌∷◌, ◌++◌}
 use mathlib.Core.Path.{◌≡◌, refl, ap}
 use native.Mathlib.Omega.{arith}
-use Rattle.crc.specs.Crc.{tag_crc}
 use Rattle.frame.proofs.Picks.{pick_true, pick_false, pick_or, pick_not, pick_both, pick_all_three}
 use Rattle.frame.proofs.Tests.{and_left, not_leb}
 use Rattle.frame.specs.Bytes.{pick, part, bytes_of, byte, number, double}

@@ -19,7 +19,7 @@ use Rattle.image.proofs.Places.{bank_cases}
 use Rattle.tag.proofs.NamedWords.{Inside, inside, away, data_length}
 use Rattle.image.proofs.Changes.{view_sets}
 use Rattle.image.proofs.CrcStores.{offset_stays, kept_before, kept_behind, good_anew, kept_anew}
-use Rattle.image.proofs.GoodImages.{Good, CrcKept, good_facts, crc_kept_lem, good_holds}
+use Rattle.image.proofs.GoodImages.{Good, good_facts, crc_kept_lem, good_holds}
 use Rattle.tag.proofs.LockPairs.{pairs_small, new_pairs_small, bits_small}
 use Rattle.tag.specs.Answers.{crc_kept, changed}
 use Rattle.tag.specs.Commands.{bank_in, pointer_in, count_in, data_in, ld_in, length_broken, act_of}

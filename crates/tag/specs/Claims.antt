@@ -9,7 +9,7 @@ use Rattle.frame.specs.Bytes.{pick, first_of, byte, number, double, part}
 use Rattle.frame.specs.Frames.{sum}
 use Rattle.tag.specs.Answers.{answer, changed}
 use Rattle.tag.specs.Commands.{act_of, gone, read_verdict, write_verdict}
-use Rattle.image.specs.Image.{good, bank_of}
+use Rattle.image.specs.Image.{bank_of}
 use Rattle.tag.specs.Locks.{pairs, standing_of, is_wrong, allows, may_read, may_write, refuses_pair, new_pair}
 use Rattle.tag.specs.declared.commands.Act.{Act}
 use Rattle.tag.specs.declared.commands.Act.TheVariants.{TagError}

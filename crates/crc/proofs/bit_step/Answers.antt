@@ -1,6 +1,5 @@
 -- `bit_step` meets its contract: each return is one of the laws of a bit.
 use Rattle.crc.proofs.Steps.{high_one, high_zero, low_one, low_zero}
-use borrow.Author.Rules.{rules}
 use Rattle.crc.proofs.bit_step.Goals as goal
 
 pub returns-then-register-ge32768 : goal.returns-then-register-ge32768

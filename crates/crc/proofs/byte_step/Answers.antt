@@ -1,8 +1,5 @@
 -- `byte_step` meets its contract: what is worked, with the bits left, is the whole byte's step.
-use Prim.Native.Nat.{◌-◌}
-use mathlib.Core.Path.{◌≡◌, sym, ap, ◌∙◌}
-use native.Mathlib.Omega.{arith}
-use borrow.Author.Rules.{rules}
+use mathlib.Core.Path.{sym, ap, ◌∙◌}
 use Rattle.crc.specs.Crc.{bit_steps, byte_step}
 use Rattle.crc.proofs.Steps.{bits_next, bits_none}
 use Rattle.crc.proofs.byte_step.Goals as goal

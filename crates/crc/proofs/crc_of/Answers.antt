@@ -1,10 +1,6 @@
 -- `crc_of` meets its contract: what is worked, with the bytes left, is the whole CRC.
-use Prim.Native.Nat.{◌-◌, ◌≤◌}
-use lib.ListN.{length, drop}
-use mathlib.Core.Path.{◌≡◌, refl, sym, ◌∙◌}
+use mathlib.Core.Path.{refl, sym, ◌∙◌}
 use native.Mathlib.Omega.{arith}
-use borrow.Author.Rules.{rules}
-use Rattle.crc.specs.Crc.{crc}
 use Rattle.crc.proofs.Steps.{bytes_next, bytes_none}
 use Rattle.crc.proofs.crc_of.Goals as goal
 

@@ -1,11 +1,8 @@
 -- `crc_of` meets its contract: what is worked, with the bytes left, is the whole CRC.
 use Prim.Native.Nat.{◌-◌, ◌≤◌}
 use lib.ListN.{length, drop}
-use mathlib.Core.Path.{◌≡◌, refl, sym, ◌∙◌}
-use native.Mathlib.Omega.{arith}
-use borrow.Author.Rules.{rules}
+use mathlib.Core.Path.{◌≡◌}
 use Rattle.crc.specs.Crc.{crc}
-use Rattle.crc.proofs.Steps.{bytes_next, bytes_none}
 use Rattle.crc.proofs.crc_of.Given as goal
 
 abbrev pub invariant-loop-i : goal.invariant-loop-i

@@ -1,6 +1,5 @@
 -- `enter` meets its contract: the byte is added where the direction says.
 use Rattle.crc.specs.Crc.{entered}
-use borrow.Author.Rules.{rules}
 use Rattle.crc.proofs.enter.Goals as goal
 
 pub returns-in-HighFirst : goal.returns-in-HighFirst

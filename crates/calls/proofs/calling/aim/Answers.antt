@@ -1,6 +1,5 @@
 -- `aim` meets its contract: the command is carried out at its place, and its answer counted.
 use Rattle.calls.proofs.Doing.{aims_good, aims_error, never_refused}
-use borrow.Author.Rules.{rules}
 use Rattle.calls.proofs.calling.aim.Goals as goal
 
 pub returns-in-Good : goal.returns-in-Good

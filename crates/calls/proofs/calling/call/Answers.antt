@@ -1,6 +1,5 @@
 -- `call` meets its contract: what is decided and done is the machine's step.
 use Rattle.calls.proofs.Doables.{decided_doable, called, lent_called}
-use borrow.Author.Rules.{rules}
 use Rattle.calls.proofs.calling.call.Goals as goal
 
 pub carry_out-requires : goal.carry_out-requires

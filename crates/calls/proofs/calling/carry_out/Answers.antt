@@ -1,6 +1,5 @@
 -- `carry_out` meets its contract: each job is done as the machine does it.
 use Rattle.calls.proofs.Doing.{can_drop, can_select, can_miss, can_aim, cut_parameters, cut_at, does_stay, does_drop, does_select, does_miss, does_aim, lends_stay, lends_drop, lends_select, lends_miss, lends_aim}
-use borrow.Author.Rules.{rules}
 use native.Mathlib.Omega.{arith}
 use Rattle.calls.proofs.calling.carry_out.Goals as goal
 

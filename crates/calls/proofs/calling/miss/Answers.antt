@@ -1,6 +1,5 @@
 -- `miss` meets its contract: the plain error, counted.
 use Rattle.calls.proofs.Doing.{tells}
-use borrow.Author.Rules.{rules}
 use Rattle.calls.proofs.calling.miss.Goals as goal
 
 pub returns : goal.returns

@@ -1,6 +1,5 @@
 -- `next_after` meets its contract, case by case.
 use Rattle.frame.proofs.Picks.{pick_true, pick_false}
-use borrow.Author.Rules.{rules}
 use borrow.Author.Tests.{eq-eqb, ne_eqb}
 use mathlib.Core.Path.{sym}
 use Rattle.calls.proofs.calling.next_after.Goals as goal

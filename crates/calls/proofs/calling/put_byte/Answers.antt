@@ -1,6 +1,5 @@
 -- `put_byte` meets its contract: one byte, and the frame round it.
 use Rattle.calls.proofs.Doing.{byte_closed}
-use borrow.Author.Rules.{rules}
 use lib.ListN.{length-set}
 use native.Mathlib.Omega.{arith}
 use Rattle.calls.proofs.calling.put_byte.Goals as goal

@@ -1,6 +1,6 @@
 -- `select` meets its contract: the parameters are kept where they are taken, and else refused.
 use Rattle.calls.proofs.Doing.{not_taken, is_taken}
-use Rattle.frame.proofs.Tests.{holds, fails, not_holds, not_fails}
+use Rattle.frame.proofs.Tests.{not_holds, not_fails}
 use borrow.Author.Rules.{rules}
 use native.Mathlib.Omega.{arith}
 use Rattle.calls.proofs.calling.select.Goals as goal

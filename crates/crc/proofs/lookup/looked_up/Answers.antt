@@ -1,10 +1,6 @@
 -- `looked_up` meets its contract: what is worked, with the bytes left, is the whole CRC.
-use Prim.Native.Nat.{◌-◌, ◌≤◌}
-use lib.ListN.{length, drop}
-use mathlib.Core.Path.{◌≡◌, refl, sym, ◌∙◌}
+use mathlib.Core.Path.{refl, sym, ◌∙◌}
 use native.Mathlib.Omega.{arith}
-use borrow.Author.Rules.{rules}
-use Rattle.crc.specs.Tables.{table_crc}
 use Rattle.crc.proofs.Lookups.{two_next, last_next, none_next}
 use Rattle.crc.proofs.lookup.looked_up.Goals as goal
 

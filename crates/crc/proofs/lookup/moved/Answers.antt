@@ -1,6 +1,5 @@
 -- `moved` meets its contract: the eight bits that stay, where the direction puts them.
 use Rattle.crc.specs.Tables.{moved}
-use borrow.Author.Rules.{rules}
 use Rattle.crc.proofs.lookup.moved.Goals as goal
 
 pub returns-in-HighFirst : goal.returns-in-HighFirst

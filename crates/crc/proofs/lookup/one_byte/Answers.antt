@@ -1,6 +1,5 @@
 -- `one_byte` meets its contract: the word at the place, and what moved up.
 use Rattle.crc.specs.Tables.{table_step}
-use borrow.Author.Rules.{rules}
 use Rattle.crc.proofs.lookup.one_byte.Goals as goal
 
 pub returns : goal.returns

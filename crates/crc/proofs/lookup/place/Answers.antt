@@ -1,6 +1,5 @@
 -- `place` meets its contract: the byte meets the eight bits that the direction lets leave.
 use Rattle.crc.specs.Tables.{place}
-use borrow.Author.Rules.{rules}
 use Rattle.crc.proofs.lookup.place.Goals as goal
 
 pub returns-in-HighFirst : goal.returns-in-HighFirst

@@ -1,5 +1,4 @@
 -- `reader_crc` meets its contract: the register is handed out as it is.
-use borrow.Author.Rules.{rules}
 use Rattle.crc.specs.Crc.{reader_crc}
 use Rattle.crc.proofs.lookup.reader_crc.Goals as goal
 

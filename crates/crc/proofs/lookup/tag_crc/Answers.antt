@@ -1,5 +1,4 @@
 -- `tag_crc` meets its contract: the register is complemented.
-use borrow.Author.Rules.{rules}
 use mathlib.Core.Path.{ap}
 use Prim.Native.Nat.{ℕ, ◌-◌}
 use Rattle.crc.specs.Crc.{tag_crc}

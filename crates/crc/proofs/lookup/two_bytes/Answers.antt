@@ -1,6 +1,5 @@
 -- `two_bytes` meets its contract: a word from each table.
 use Rattle.crc.specs.Tables.{table_steps}
-use borrow.Author.Rules.{rules}
 use Rattle.crc.proofs.lookup.two_bytes.Goals as goal
 
 pub returns : goal.returns

@@ -1,12 +1,7 @@
 -- `by_twos` meets its contract: what is worked, with the bytes left, is the whole CRC.
-use Prim.Native.Nat.{◌-◌, ◌≤◌}
-use lib.ListN.{length, drop}
-use mathlib.Core.Path.{◌≡◌, refl, sym, ◌∙◌}
+use mathlib.Core.Path.{refl, sym, ◌∙◌}
 use native.Mathlib.Omega.{arith}
-use borrow.Author.Rules.{rules}
-use Rattle.crc.specs.Crc.{crc}
-use Rattle.crc.specs.declared.Direction.TheVariants.{HighFirst}
-use Rattle.crc.proofs.Steps.{bytes_next, bytes_none, two_bytes_next, last_byte}
+use Rattle.crc.proofs.Steps.{bytes_none, two_bytes_next, last_byte}
 use Rattle.crc.proofs.shifts.by_twos.Goals as goal
 
 pub loop-i-init : goal.loop-i-init

@@ -1,12 +1,9 @@
 -- `by_twos` meets its contract: what is worked, with the bytes left, is the whole CRC.
 use Prim.Native.Nat.{◌-◌, ◌≤◌}
 use lib.ListN.{length, drop}
-use mathlib.Core.Path.{◌≡◌, refl, sym, ◌∙◌}
-use native.Mathlib.Omega.{arith}
-use borrow.Author.Rules.{rules}
+use mathlib.Core.Path.{◌≡◌}
 use Rattle.crc.specs.Crc.{crc}
 use Rattle.crc.specs.declared.Direction.TheVariants.{HighFirst}
-use Rattle.crc.proofs.Steps.{bytes_next, bytes_none, two_bytes_next, last_byte}
 use Rattle.crc.proofs.shifts.by_twos.Given as goal
 
 abbrev pub invariant-loop-i : goal.invariant-loop-i

@@ -1,9 +1,9 @@
 -- `shifted_crc` meets its contract: what is worked, with the bytes left, is the whole CRC.
-use Prim.Native.Nat.{◌+◌, ◌-◌, ◌≤◌, ◌<◌}
+use Prim.Native.Nat.{◌+◌, ◌-◌}
 use borrow.Author.Rules.{rules}
 use lib.ListN.{length, drop, length-drop}
 use lib.Seq.{take_all}
-use mathlib.Core.Path.{◌≡◌, refl, ap, ◌∙◌}
+use mathlib.Core.Path.{refl, ap, ◌∙◌}
 use native.Mathlib.Omega.{arith}
 use Rattle.crc.proofs.Folds.{four_small, eight_kept, eight_next}
 use Rattle.crc.proofs.Tables.{Bytes}

@@ -1,12 +1,7 @@
 -- `shifted_crc` meets its contract: what is worked, with the bytes left, is the whole CRC.
-use Prim.Native.Nat.{◌+◌, ◌-◌, ◌≤◌, ◌<◌}
-use borrow.Author.Rules.{rules}
-use lib.ListN.{length, drop, length-drop}
-use lib.Seq.{take_all}
-use mathlib.Core.Path.{◌≡◌, refl, ap, ◌∙◌}
-use native.Mathlib.Omega.{arith}
-use Rattle.crc.proofs.Folds.{four_small, eight_kept, eight_next}
-use Rattle.crc.proofs.Tables.{Bytes}
+use Prim.Native.Nat.{◌-◌, ◌≤◌, ◌<◌}
+use lib.ListN.{length, drop}
+use mathlib.Core.Path.{◌≡◌}
 use Rattle.crc.specs.Crc.{crc}
 use Rattle.crc.specs.declared.Direction.TheVariants.{HighFirst}
 use Rattle.crc.proofs.shifts.shifted_crc.Given as goal

@@ -2,7 +2,6 @@
 use lib.ListN.{length-set}
 use native.Mathlib.Omega.{arith}
 use Rattle.execution.proofs.Pieces.{done_closed}
-use borrow.Author.Rules.{rules}
 use Rattle.execution.proofs.answers.done.Goals as goal
 
 pub bounds-output-next : goal.bounds-output-next

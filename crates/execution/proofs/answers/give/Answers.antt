@@ -7,7 +7,6 @@ use Rattle.execution.proofs.ReachTests.{given_long, given_out, given_there}
 use Rattle.frame.proofs.Copies.{reaches_there}
 use Rattle.frame.proofs.Tests.{not_holds, not_fails}
 use Rattle.tag.specs.Answers.{changed, is_error}
-use borrow.Author.Rules.{rules}
 use Rattle.execution.proofs.answers.give.Goals as goal
 
 pub returns-then-n-gt64 : goal.returns-then-n-gt64

@@ -2,7 +2,6 @@
 use lib.ListN.{length-set}
 use native.Mathlib.Omega.{arith}
 use Rattle.execution.proofs.Pieces.{plain_closed}
-use borrow.Author.Rules.{rules}
 use Rattle.execution.proofs.answers.plain_error.Goals as goal
 
 pub shape_of-output : goal.shape_of-output

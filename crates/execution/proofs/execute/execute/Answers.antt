@@ -5,7 +5,6 @@ use Rattle.execution.proofs.ReachTests.{answerable_epc}
 use Rattle.execution.specs.Reach.{has_named}
 use Rattle.frame.proofs.Tests.{not_holds, not_fails}
 use Rattle.tag.specs.Answers.{answer, changed, is_error}
-use borrow.Author.Rules.{rules}
 use Rattle.execution.proofs.execute.execute.Goals as goal
 
 pub returns-then-output-lt136 : goal.returns-then-output-lt136

@@ -1,7 +1,6 @@
 -- `is_answerable` meets its contract: the header, and the place of the PC and the EPC.
 use Rattle.execution.proofs.ReachTests.{no_header, epc_had}
 use mathlib.Core.Path.{◌∙◌}
-use borrow.Author.Rules.{rules}
 use Rattle.execution.proofs.execute.is_answerable.Goals as goal
 
 pub returns-then-image-lt24 : goal.returns-then-image-lt24

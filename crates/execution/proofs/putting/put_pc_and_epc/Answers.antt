@@ -1,7 +1,6 @@
 -- `put_pc_and_epc` meets its contract: the image has L words behind the PC, so all are copied.
 use native.Mathlib.Omega.{arith}
 use Rattle.execution.proofs.Tails.{epc_most, epc_put}
-use borrow.Author.Rules.{rules}
 use Rattle.execution.proofs.putting.put_pc_and_epc.Goals as goal
 
 pub returns : goal.returns

@@ -1,5 +1,4 @@
 -- `keep_crc` meets its contract: only a Write to the EPC bank stores the CRC word.
-use borrow.Author.Rules.{rules}
 use borrow.Author.Tests.{eq-eqb, ne_eqb}
 use mathlib.Core.Path.{◌∙◌}
 use Rattle.frame.proofs.Picks.{pick_true, pick_false}

@@ -5,7 +5,6 @@ use Rattle.execution.specs.Reach.{has_named}
 use Rattle.frame.proofs.Copies.{reaches_there}
 use Rattle.frame.proofs.Tests.{not_holds, not_fails}
 use Rattle.tag.specs.Answers.{answer, changed, is_error}
-use borrow.Author.Rules.{rules}
 use Rattle.execution.proofs.storing.set.Goals as goal
 
 pub returns-then-not-reaches : goal.returns-then-not-reaches

@@ -1,5 +1,4 @@
 -- `store` meets its contract: a Write's data are not there or have no room, or they are stored behind the answer, and the CRC word with them.
-use borrow.Author.Rules.{rules}
 use mathlib.Core.Path.{refl}
 use native.Mathlib.Omega.{arith}
 use Rattle.execution.proofs.Acts.{store_copied}

@@ -1,7 +1,6 @@
 -- `call_beside` meets its contract: the call of the crate, and the record of its failure, for which there is room.
 use native.Mathlib.Omega.{arith}
 use Rattle.failures.proofs.Besides.{has_room, beside_one, beside_none}
-use borrow.Author.Rules.{rules}
 use Rattle.failures.proofs.listing.call_beside.Goals as goal
 
 pub overflow_add-result : goal.overflow_add-result

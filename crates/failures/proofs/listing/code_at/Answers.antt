@@ -1,5 +1,4 @@
 -- `code_at` meets its contract: behind the end stands 0.
-use borrow.Author.Rules.{rules}
 use Rattle.machine.specs.Machine.{code_at}
 use Rattle.failures.proofs.Besides.{no_code}
 use Rattle.failures.proofs.listing.code_at.Goals as goal

@@ -3,7 +3,6 @@ use native.Mathlib.Omega.{arith}
 use mathlib.Core.Path.{◌∙◌}
 use Rattle.failures.proofs.Besides.{small_reason, as_told, good_told, error_told, drop_told, none_told}
 use Rattle.reader.specs.Outcomes.{number_of}
-use borrow.Author.Rules.{rules}
 use Rattle.failures.proofs.listing.failure_of.Goals as goal
 
 pub returns-then-byte_at-ne255 : goal.returns-then-byte_at-ne255

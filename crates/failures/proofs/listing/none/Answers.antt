@@ -1,5 +1,4 @@
 -- `none` meets its contract: no failure, and a blank record.
-use borrow.Author.Rules.{rules}
 use Rattle.failures.proofs.Besides.{is_none_lem}
 use Rattle.failures.proofs.listing.none.Goals as goal
 

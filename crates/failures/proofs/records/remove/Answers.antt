@@ -1,9 +1,6 @@
 -- `remove` meets its contract: where a record is read there is one, and a move puts it where it goes.
-use Rattle.std.proofs.Common.{◌≡◌, ◌+◌, ◌<◌, List, length, get_or, set, ap, sym, ◌∙◌, arith, rules}
+use Rattle.std.proofs.Common.{length, sym, arith, rules}
 use Rattle.failures.proofs.Moves.{moves_fit, moved_none, moved_suc}
-use Rattle.failures.specs.Lists.{moved_up}
-use Rattle.failures.specs.Records.{blank}
-use Rattle.failures.specs.declared.record.Record.{Record}
 use Rattle.failures.proofs.records.remove.Goals as goal
 
 pub loop-k-init : goal.loop-k-init

@@ -1,5 +1,4 @@
 -- `add_numbers` meets its contract.
-use borrow.Author.Rules.{rules}
 use lib.ListN.{length-set}
 use mathlib.Core.Path.{sym}
 use native.Mathlib.Omega.{arith}

@@ -1,8 +1,6 @@
 -- `remove_numbers` meets its contract. The loop's invariant: k numbers have moved, of those that are to.
 use Prim.Native.Nat.{◌*◌, ◌-◌}
-use borrow.Author.Rules.{rules}
-use native.Mathlib.Omega.{arith}
-use Rattle.failures.proofs.Threes.{Moving, begins, left_inside, length_moving, reads, goes_on, ends}
+use Rattle.failures.proofs.Threes.{Moving}
 use Rattle.failures.proofs.triples.remove_numbers.Given as goal
 
 abbrev pub invariant-loop-k : goal.invariant-loop-k

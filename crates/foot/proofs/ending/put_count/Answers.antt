@@ -2,7 +2,6 @@
 use native.Mathlib.Omega.{arith}
 use Rattle.foot.proofs.FootTexts.{count_by}
 use Rattle.text.proofs.Decimals.{decimal_64}
-use borrow.Author.Rules.{rules}
 use Rattle.foot.proofs.ending.put_count.Goals as goal
 
 pub returns : goal.returns

@@ -2,7 +2,6 @@
 use Rattle.foot.proofs.FootTexts.{ended, none_ended}
 use Rattle.frame.proofs.Copies.{reaches_there}
 use Rattle.frame.proofs.Tests.{not_holds, not_fails}
-use borrow.Author.Rules.{rules}
 use Rattle.foot.proofs.ending.put_end.Goals as goal
 
 pub returns-then-not-reaches : goal.returns-then-not-reaches

@@ -4,7 +4,6 @@ use Rattle.foot.proofs.FootTexts.{refused_by, end_as}
 use Rattle.text.proofs.Chains.{none_by}
 use Rattle.reader.specs.Outcomes.{number_of}
 use Rattle.foot.specs.Foot.{end_for}
-use borrow.Author.Rules.{rules}
 use Rattle.foot.proofs.ending.put_end_text.Goals as goal
 
 pub returns-in-Answered : goal.returns-in-Answered

@@ -2,7 +2,6 @@
 use Prim.Native.Nat.{ℕ, ◌+◌}
 use mathlib.Core.Path.{ap}
 use Rattle.foot.proofs.FootTexts.{failures_by}
-use borrow.Author.Rules.{rules}
 use Rattle.foot.proofs.ending.put_failures.Goals as goal
 
 pub returns : goal.returns

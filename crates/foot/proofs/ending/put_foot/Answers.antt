@@ -1,6 +1,5 @@
 -- `put_foot` meets its contract: what waits, the counts, the failures, and the lines for the names.
 use Rattle.foot.proofs.FootTexts.{counts_room, names_room, foot_by}
-use borrow.Author.Rules.{rules}
 use Rattle.foot.proofs.ending.put_foot.Goals as goal
 
 pub put_failures-last-requires : goal.put_failures-last-requires

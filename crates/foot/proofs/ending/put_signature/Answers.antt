@@ -1,7 +1,6 @@
 -- `put_signature` meets its contract: the line for the names, and the last line.
 use Rattle.foot.proofs.FootTexts.{signature_by}
 use Rattle.foot.specs.Foot.{name_line, end_line}
-use borrow.Author.Rules.{rules}
 use Rattle.foot.proofs.ending.put_signature.Goals as goal
 
 pub returns : goal.returns

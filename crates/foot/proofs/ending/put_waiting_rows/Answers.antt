@@ -1,7 +1,6 @@
 -- `put_waiting_rows` meets its contract: none, or one.
 use native.Mathlib.Omega.{arith}
 use Rattle.foot.proofs.FootTexts.{waits_not, waits}
-use borrow.Author.Rules.{rules}
 use Rattle.foot.proofs.ending.put_waiting_rows.Goals as goal
 
 pub returns-then-size-cursor : goal.returns-then-size-cursor

@@ -1,6 +1,5 @@
 -- `reaches` meets its contract: the room that it compares with is the slice's length.
 use Rattle.frame.specs.Bytes.{reaches}
-use Rattle.std.proofs.Common.{rules}
 use Rattle.frame.proofs.bytes.reaches.Goals as goal
 
 pub returns : goal.returns

@@ -1,6 +1,6 @@
 -- `check` meets its contract: what is accumulated, with the sum of the rest, is the whole sum modulo 256.
-use Rattle.std.proofs.Common.{◌≡◌, ◌+◌, ◌-◌, ◌%◌, ◌<◌, ◌≤◌, length, drop, arith, rules}
-use Rattle.frame.specs.Frames.{sum, check_of}
+use Rattle.std.proofs.Common.{arith}
+use Rattle.frame.specs.Frames.{check_of}
 use Rattle.frame.proofs.Sums.{sum_next, sum_behind}
 use Rattle.frame.proofs.check.check.Goals as goal
 

@@ -1,7 +1,6 @@
 -- `check` meets its contract: what is accumulated, with the sum of the rest, is the whole sum modulo 256.
-use Rattle.std.proofs.Common.{◌≡◌, ◌+◌, ◌-◌, ◌%◌, ◌<◌, ◌≤◌, length, drop, arith, rules}
+use Rattle.std.proofs.Common.{◌≡◌, ◌+◌, ◌-◌, ◌%◌, ◌<◌, ◌≤◌, length, drop}
 use Rattle.frame.specs.Frames.{sum, check_of}
-use Rattle.frame.proofs.Sums.{sum_next, sum_behind}
 use Rattle.frame.proofs.check.check.Given as goal
 
 abbrev pub invariant-loop-i : goal.invariant-loop-i

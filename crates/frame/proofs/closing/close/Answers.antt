@@ -1,5 +1,5 @@
 -- `close` meets its contract: the stores are the frame's bytes round the parameters, or there are none.
-use Rattle.std.proofs.Common.{arith, length-set, rules}
+use Rattle.std.proofs.Common.{arith, length-set}
 use Rattle.frame.proofs.Closings.{unclosed_long, unclosed_room, closed_framed}
 use Rattle.frame.proofs.closing.close.Goals as goal
 

@@ -1,6 +1,6 @@
 -- `copy` meets its contract. The loop's invariant: all n bytes are there and have room, the first i of them stand where they go, and all
 -- else is as it was.
-use Rattle.std.proofs.Common.{◌≡◌, ◌+◌, ◌-◌, ◌≤◌, length, get_or, set, ap, ◌∙◌, arith, length-set, rules}
+use Rattle.std.proofs.Common.{◌≡◌, ◌+◌, get_or, set, ap, ◌∙◌, arith, length-set, rules}
 use lib.Seq.{paste, paste-zero}
 use Rattle.frame.proofs.Copies.{reaches_there, copied_short, copied_no_room, copied_more, copied_whole}
 use Rattle.frame.proofs.Tests.{not_holds, not_fails}

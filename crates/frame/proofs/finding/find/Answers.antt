@@ -1,5 +1,5 @@
 -- `find` meets its contract: each return is one of the rules.
-use Rattle.std.proofs.Common.{◌≡◌, ℕ, ◌+◌, ◌-◌, List, take, drop, sym, ap, ◌∙◌, arith, rules, eq-eqb, ne_eqb}
+use Rattle.std.proofs.Common.{◌≡◌, ℕ, ◌+◌, ◌-◌, List, take, drop, sym, ap, ◌∙◌, arith, eq-eqb, ne_eqb}
 use Rattle.frame.specs.Bytes.{byte, part}
 use Rattle.frame.specs.Formats.{commands, pl_in, sum_right, last_right}
 use Rattle.frame.specs.Frames.{check_of, longest_command}

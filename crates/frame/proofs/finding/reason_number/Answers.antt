@@ -1,6 +1,5 @@
 -- `reason_number` meets its contract, reason by reason.
 use Rattle.frame.specs.Finding.{reason_number}
-use Rattle.std.proofs.Common.{rules}
 use Rattle.frame.proofs.finding.reason_number.Goals as goal
 
 pub returns-in-NoHeader : goal.returns-in-NoHeader

@@ -6,7 +6,6 @@ use Rattle.frame.specs.Formats.{commands}
 use Rattle.frame.specs.Frames.{frame_length}
 use Rattle.head.proofs.Taken.{drop_there}
 use Rattle.head.specs.Commands.{bytes_taken}
-use borrow.Author.Rules.{rules}
 use Rattle.head.proofs.commands.bytes_taken.Goals as goal
 
 pub overflow_add-result : goal.overflow_add-result

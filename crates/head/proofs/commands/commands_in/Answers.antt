@@ -1,11 +1,6 @@
 -- `commands_in` meets its contract. The loop's invariant: so many are counted, and those from the cursor on are still to come.
-use Prim.Native.Nat.{◌+◌, ◌-◌, ◌≤◌}
-use lib.ListN.{length, drop}
-use mathlib.Core.Path.{◌≡◌}
 use native.Mathlib.Omega.{arith}
 use Rattle.head.proofs.Taken.{reach, none_more, one_dropped, one_taken, none_left}
-use Rattle.head.specs.Commands.{commands_in}
-use borrow.Author.Rules.{rules}
 use Rattle.head.proofs.commands.commands_in.Goals as goal
 use Rattle.head.proofs.commands.commands_in.Goals.{then-bytes-gt1, else-bytes-gt1}
 
@@ -36,11 +31,11 @@ loop-at-preserved c =
     let is = c.bytes_taken-bytes.ensures.value in (
       reach input c.loop-at.at _ c.loop-at.invariant.0 c.bytes_taken-bytes.ensures.upper_bound,
       elim c.if-bytes-gt1.branch [
-        then-bytes-gt1 w ↦ (
+        | then-bytes-gt1 w ↦ (
           omega (arith, so_far.0, w.if-bytes-gt1.true, w.n-is),
           omega (arith, so_far.1, w.n-is, one_taken input c.loop-at.at _ is w.if-bytes-gt1.true),
         )
-      | else-bytes-gt1 w ↦ (
+        | else-bytes-gt1 w ↦ (
           omega (arith, so_far.0, w.n-is),
           omega (arith, so_far.1, w.n-is, one_dropped input c.loop-at.at _ is (omega (arith, c.if-bytes-eq0.false, w.if-bytes-gt1.false))),
         )

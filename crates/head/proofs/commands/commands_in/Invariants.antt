@@ -1,12 +1,8 @@
 -- `commands_in` meets its contract. The loop's invariant: so many are counted, and those from the cursor on are still to come.
 use Prim.Native.Nat.{◌+◌, ◌-◌, ◌≤◌}
 use lib.ListN.{length, drop}
-use mathlib.Core.Logic.{⊎_elim}
 use mathlib.Core.Path.{◌≡◌}
-use native.Mathlib.Omega.{arith}
-use Rattle.head.proofs.Taken.{reach, none_more, one_dropped, one_taken, none_left}
 use Rattle.head.specs.Commands.{commands_in}
-use borrow.Author.Rules.{rules}
 use Rattle.head.proofs.commands.commands_in.Given as goal
 
 abbrev pub invariant-loop-at : goal.invariant-loop-at

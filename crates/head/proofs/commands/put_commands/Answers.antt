@@ -1,7 +1,6 @@
 -- `put_commands` meets its contract: the number, and the word for it.
 use native.Mathlib.Omega.{arith}
 use Rattle.head.proofs.FilePuts.{commands_put, laid_one, laid_more}
-use borrow.Author.Rules.{rules}
 use Rattle.head.proofs.commands.put_commands.Goals as goal
 
 pub returns-then-n-eq1 : goal.returns-then-n-eq1

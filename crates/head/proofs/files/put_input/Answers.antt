@@ -3,7 +3,6 @@ use native.Mathlib.Omega.{arith}
 use Rattle.head.proofs.FilePuts.{file_put}
 use Rattle.text.proofs.Decimals.{decimal_64}
 use Rattle.text.proofs.Laying.{laid_put}
-use borrow.Author.Rules.{rules}
 use Rattle.head.proofs.files.put_input.Goals as goal
 
 pub returns : goal.returns

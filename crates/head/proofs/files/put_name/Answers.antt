@@ -3,7 +3,6 @@ use borrow.Author.Tests.{not-true, not-false}
 use native.Mathlib.Omega.{arith}
 use Rattle.text.proofs.Chains.{laid_by, room_by}
 use Rattle.head.proofs.FilePuts.{one_name, crate_name}
-use borrow.Author.Rules.{rules}
 use Rattle.head.proofs.files.put_name.Goals as goal
 
 pub returns-then-not-numbered : goal.returns-then-not-numbered

@@ -1,6 +1,5 @@
 -- `put_size` meets its contract: the digits up to the right edge, and the unit.
 use Rattle.head.proofs.FilePuts.{size_put}
-use borrow.Author.Rules.{rules}
 use Rattle.head.proofs.files.put_size.Goals as goal
 
 pub returns : goal.returns

@@ -3,7 +3,6 @@ use native.Mathlib.Omega.{arith}
 use Rattle.text.proofs.Chains.{more_by}
 use Rattle.head.proofs.FilePuts.{file_put, name_short}
 use Rattle.text.proofs.Decimals.{decimal_64}
-use borrow.Author.Rules.{rules}
 use Rattle.head.proofs.files.put_tag.Goals as goal
 
 pub returns : goal.returns

@@ -1,13 +1,8 @@
 -- `put_tags` meets its contract. The loop's invariant: the lines of the first i tags stand there, and each has at most 27 bytes.
-use Prim.Native.Nat.{◌+◌, ◌-◌, ◌*◌, ◌≤◌}
-use lib.ListN.{length, take}
-use mathlib.Core.Path.{◌≡◌, refl, ◌∙◌}
+use mathlib.Core.Path.{refl, ◌∙◌}
 use native.Mathlib.Omega.{arith}
 use Rattle.frame.proofs.Stores.{length_put}
-use Rattle.frame.specs.Putting.{Put}
 use Rattle.head.proofs.FilePuts.{no_tags, tags_next, tags_all}
-use Rattle.head.specs.Files.{tag_lines}
-use borrow.Author.Rules.{rules}
 use Rattle.head.proofs.files.put_tags.Goals as goal
 
 pub loop-i-init : goal.loop-i-init

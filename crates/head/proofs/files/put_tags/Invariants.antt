@@ -1,13 +1,9 @@
 -- `put_tags` meets its contract. The loop's invariant: the lines of the first i tags stand there, and each has at most 27 bytes.
 use Prim.Native.Nat.{◌+◌, ◌-◌, ◌*◌, ◌≤◌}
 use lib.ListN.{length, take}
-use mathlib.Core.Path.{◌≡◌, refl, ◌∙◌}
-use native.Mathlib.Omega.{arith}
-use Rattle.frame.proofs.Stores.{length_put}
+use mathlib.Core.Path.{◌≡◌}
 use Rattle.frame.specs.Putting.{Put}
-use Rattle.head.proofs.FilePuts.{no_tags, tags_next, tags_all}
 use Rattle.head.specs.Files.{tag_lines}
-use borrow.Author.Rules.{rules}
 use Rattle.head.proofs.files.put_tags.Given as goal
 
 abbrev pub invariant-loop-i : goal.invariant-loop-i

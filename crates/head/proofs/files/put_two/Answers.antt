@@ -2,7 +2,6 @@
 use lib.ListN.{length-set}
 use native.Mathlib.Omega.{arith}
 use Rattle.head.proofs.FilePuts.{two_put}
-use borrow.Author.Rules.{rules}
 use Rattle.head.proofs.files.put_two.Goals as goal
 
 pub bounds-buffer-at-2 : goal.bounds-buffer-at-2

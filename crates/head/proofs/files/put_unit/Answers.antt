@@ -1,6 +1,5 @@
 -- `put_unit` meets its contract: each arm under its test.
 use Rattle.head.proofs.FilePuts.{laid_one, laid_more}
-use borrow.Author.Rules.{rules}
 use Rattle.head.proofs.files.put_unit.Goals as goal
 
 pub returns-then-size-eq1 : goal.returns-then-size-eq1

@@ -1,7 +1,6 @@
 -- `put_head` meets its contract: its lines, one behind the other.
 use Rattle.head.proofs.Heads.{file_room, taken_room, tags_room, head_put}
 use Rattle.head.specs.Head.{title_line, column_lines}
-use borrow.Author.Rules.{rules}
 use Rattle.head.proofs.writing.put_head.Goals as goal
 
 pub put_input-taken-requires : goal.put_input-taken-requires

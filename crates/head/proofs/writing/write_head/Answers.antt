@@ -1,6 +1,5 @@
 -- `write_head` meets its contract, test by test.
 use Rattle.head.proofs.Heads.{too_many, too_short, headed}
-use borrow.Author.Rules.{rules}
 use Rattle.head.proofs.writing.write_head.Goals as goal
 
 pub returns-then-sizes-gt16 : goal.returns-then-sizes-gt16

@@ -1,5 +1,4 @@
 -- `crc_of_epc` meets its contract: the part of the image that it works is what is there of the PC and the EPC.
-use borrow.Author.Rules.{rules}
 use mathlib.Core.Path.{◌∙◌}
 use Rattle.image.proofs.CrcWords.{worked_bytes}
 use Rattle.image.proofs.crc_word.crc_of_epc.Goals as goal

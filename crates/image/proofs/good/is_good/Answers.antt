@@ -1,5 +1,4 @@
 -- `is_good` meets its contract: it tests the header, the banks, the tag and the CRC word, each where those before have shown that its bytes are there.
-use borrow.Author.Rules.{rules}
 use borrow.Author.Tests.{lt-leb}
 use mathlib.Core.Bool.{and-false}
 use mathlib.Core.Path.{sym, ◌∙◌}

@@ -1,5 +1,4 @@
 -- `is_good_banks` meets its contract: one failed test is enough, and at the end all but the last hold.
-use borrow.Author.Rules.{rules}
 use borrow.Author.Tests.{lt-leb, ne_eqb}
 use mathlib.Core.Bool.{and-false}
 use mathlib.Core.Path.{◌∙◌}

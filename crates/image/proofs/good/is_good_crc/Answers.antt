@@ -1,5 +1,4 @@
 -- `is_good_crc` meets its contract: it works the CRC of the PC and the EPC, and holds it against EPC word 0.
-use borrow.Author.Rules.{rules}
 use mathlib.Core.Path.{ap, ◌∙◌}
 use Rattle.image.proofs.CrcWords.{all_there, worked_there}
 use Rattle.image.specs.Image.{good_crc}

@@ -1,5 +1,4 @@
 -- `is_good_tag` meets its contract: one failed test is enough, and at the end all hold.
-use borrow.Author.Rules.{rules}
 use mathlib.Core.Path.{◌∙◌}
 use Rattle.image.proofs.Heads.{locks_bad, state_bad, length_bad, tag_good, pc_there}
 use Rattle.image.proofs.good.is_good_tag.Goals as goal

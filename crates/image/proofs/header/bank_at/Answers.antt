@@ -1,5 +1,4 @@
 -- `bank_at` meets its contract: its two numbers are those of the definition.
-use borrow.Author.Rules.{rules}
 use Rattle.image.specs.Image.{bank_at}
 use Rattle.image.proofs.header.bank_at.Goals as goal
 

@@ -1,6 +1,5 @@
 -- `bank_in` meets its contract: its two numbers are those of the definition.
 use Rattle.image.specs.Image.{bank_at}
-use borrow.Author.Rules.{rules}
 use Rattle.image.proofs.header.bank_in.Goals as goal
 
 pub returns : goal.returns

@@ -1,7 +1,6 @@
 -- `epc_span` meets its contract: it reads the two numbers of the view that it needs, and no other.
 use native.Mathlib.Omega.{arith}
 use Rattle.image.specs.Image.{bank_at, view}
-use borrow.Author.Rules.{rules}
 use Rattle.image.proofs.header.epc_span.Goals as goal
 
 pub returns : goal.returns

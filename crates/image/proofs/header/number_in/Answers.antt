@@ -2,7 +2,6 @@
 use native.Mathlib.Omega.{arith}
 use Rattle.frame.specs.Bytes.{byte, number}
 use Prim.Native.Nat.{◌+◌}
-use borrow.Author.Rules.{rules}
 use Rattle.image.proofs.header.number_in.Goals as goal
 
 pub overflow_mul-result : goal.overflow_mul-result

@@ -1,5 +1,4 @@
 -- `short_view` meets its contract: each field is read where the definition reads it, and is a two-byte number.
-use borrow.Author.Rules.{rules}
 use Rattle.image.specs.Image.{bank_at, view}
 use Rattle.image.proofs.header.short_view.Goals as goal
 

@@ -1,7 +1,6 @@
 -- `whole_view` meets its contract: the PC is read beside the rest.
 use mathlib.Core.Path.{◌∙◌}
 use Rattle.image.proofs.Heads.{whole_again, pc_there}
-use borrow.Author.Rules.{rules}
 use Rattle.image.proofs.header.whole_view.Goals as goal
 
 pub returns : goal.returns

@@ -2,7 +2,6 @@
 use Prim.Native.Nat.{ℕ}
 use Rattle.machine.proofs.Absents.{told_error, no_other}
 use Rattle.frame.specs.Bytes.{byte}
-use borrow.Author.Rules.{rules}
 use mathlib.Core.Path.{◌≡◌}
 use native.Mathlib.Omega.{arith}
 use Rattle.machine.proofs.absent.error_without.Goals as goal

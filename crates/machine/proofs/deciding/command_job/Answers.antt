@@ -1,6 +1,5 @@
 -- `command_job` meets its contract: Set Select, no tag, or the lowest one.
 use Rattle.machine.proofs.Jobs.{selects, misses, aims}
-use borrow.Author.Rules.{rules}
 use Rattle.machine.proofs.deciding.command_job.Goals as goal
 
 pub returns-then-code-eq12 : goal.returns-then-code-eq12

@@ -5,7 +5,6 @@ use mathlib.Core.Path.{refl}
 use Rattle.frame.proofs.Tests.{holds, fails, not_holds, not_fails}
 use Rattle.population.proofs.Selects.{lowest_none}
 use Rattle.reader.specs.Outcomes.{number_of}
-use borrow.Author.Rules.{rules}
 use Rattle.machine.proofs.deciding.decide.Goals as goal
 
 pub returns-then-input-cursor : goal.returns-then-input-cursor

@@ -1,6 +1,5 @@
 -- `find_job` meets its contract, case by case.
 use Rattle.machine.proofs.Jobs.{found_is, frame_there, finds_end, finds_wait, finds_drop, finds_command}
-use borrow.Author.Rules.{rules}
 use Rattle.machine.proofs.deciding.find_job.Goals as goal
 
 pub command_job-requires : goal.command_job-requires

@@ -1,7 +1,6 @@
 -- `put_aim` meets its contract: the bank, the pointer and the count.
 use native.Mathlib.Omega.{arith}
 use Rattle.naming.proofs.CommandTexts.{aim_put}
-use borrow.Author.Rules.{rules}
 use Rattle.naming.proofs.commands.put_aim.Goals as goal
 
 pub returns : goal.returns

@@ -5,7 +5,6 @@ use Rattle.frame.specs.Bytes.{pick}
 use Rattle.text.proofs.Chains.{laid_by, is_by}
 use Rattle.naming.proofs.CommandTexts.{is_user}
 use Rattle.naming.specs.Commands.{bank_name}
-use borrow.Author.Rules.{rules}
 use Rattle.naming.proofs.commands.put_bank.Goals as goal
 
 pub returns-then-bank-eq0 : goal.returns-then-bank-eq0

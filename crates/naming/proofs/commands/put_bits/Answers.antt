@@ -1,6 +1,5 @@
 -- `put_bits` meets its contract: two bytes in hex.
 use Rattle.naming.proofs.CommandTexts.{bits_put}
-use borrow.Author.Rules.{rules}
 use Rattle.naming.proofs.commands.put_bits.Goals as goal
 
 pub returns : goal.returns

@@ -3,7 +3,6 @@ use Rattle.frame.proofs.Copies.{reaches_there}
 use Rattle.frame.proofs.Tests.{not_holds, not_fails}
 use Rattle.naming.proofs.Widths.{command_64}
 use Rattle.text.proofs.Laying.{put_within, none_within}
-use borrow.Author.Rules.{rules}
 use Rattle.naming.proofs.commands.put_command.Goals as goal
 
 pub returns-then-not-reaches : goal.returns-then-not-reaches

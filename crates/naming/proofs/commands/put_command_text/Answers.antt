@@ -2,7 +2,6 @@
 use native.Mathlib.Omega.{arith}
 use Rattle.text.proofs.Chains.{laid_by, room_by, hex_short}
 use Rattle.naming.proofs.CommandTexts.{command_put}
-use borrow.Author.Rules.{rules}
 use Rattle.naming.proofs.commands.put_command_text.Goals as goal
 
 pub put_fields-requires : goal.put_fields-requires

@@ -3,7 +3,6 @@ use mathlib.Core.Path.{refl, ap, sym}
 use native.Mathlib.Omega.{arith}
 use Rattle.text.proofs.Chains.{laid_by, is_by}
 use Rattle.naming.specs.Commands.{fields_text}
-use borrow.Author.Rules.{rules}
 use Rattle.naming.proofs.commands.put_fields.Goals as goal
 
 pub returns-in-Malformed : goal.returns-in-Malformed

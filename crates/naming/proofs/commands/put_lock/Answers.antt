@@ -2,7 +2,6 @@
 use native.Mathlib.Omega.{arith}
 use Rattle.text.proofs.Chains.{laid_by, room_by}
 use Rattle.naming.proofs.CommandTexts.{lock_words_put, lock_put}
-use borrow.Author.Rules.{rules}
 use Rattle.naming.proofs.commands.put_lock.Goals as goal
 
 pub put_bits-third-requires : goal.put_bits-third-requires

@@ -1,7 +1,6 @@
 -- `put_words` meets its contract: the name, then what it aims at.
 use native.Mathlib.Omega.{arith}
 use Rattle.text.proofs.Chains.{laid_by, join_by, room_by}
-use borrow.Author.Rules.{rules}
 use Rattle.naming.proofs.commands.put_words.Goals as goal
 
 pub put_aim-requires : goal.put_aim-requires

@@ -3,7 +3,6 @@ use Rattle.frame.proofs.Copies.{reaches_there}
 use Rattle.frame.proofs.Tests.{not_holds, not_fails}
 use Rattle.naming.proofs.Widths.{error_short}
 use Rattle.text.proofs.Laying.{put_within, none_within}
-use borrow.Author.Rules.{rules}
 use Rattle.naming.proofs.errors.put_error.Goals as goal
 
 pub returns-then-not-reaches : goal.returns-then-not-reaches

@@ -1,6 +1,5 @@
 -- `put_error_text` meets its contract: the byte, a space and the words.
 use Rattle.naming.proofs.ErrorTexts.{error_put}
-use borrow.Author.Rules.{rules}
 use Rattle.naming.proofs.errors.put_error_text.Goals as goal
 
 pub returns : goal.returns

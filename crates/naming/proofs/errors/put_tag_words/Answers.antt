@@ -3,7 +3,6 @@ use mathlib.Core.Path.{ap, sym, ◌∙◌}
 use Rattle.frame.specs.Bytes.{pick, first_of}
 use Rattle.naming.proofs.Choices.{first_not, first_none, laid_is}
 use Rattle.naming.specs.Errors.{tag_words}
-use borrow.Author.Rules.{rules}
 use Rattle.naming.proofs.errors.put_tag_words.Goals as goal
 
 pub returns-then-error-eq22 : goal.returns-then-error-eq22

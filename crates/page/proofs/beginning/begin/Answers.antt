@@ -1,6 +1,5 @@
 -- `begin` meets its contract: no room, or by how the files stand.
 use Rattle.page.proofs.Beginnings.{too_short, unreadable_page, long_page, run_page}
-use borrow.Author.Rules.{rules}
 use Rattle.page.proofs.beginning.begin.Goals as goal
 
 pub returns-then-buffer-lt2048 : goal.returns-then-buffer-lt2048

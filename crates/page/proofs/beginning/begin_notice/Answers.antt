@@ -1,6 +1,5 @@
 -- `begin_notice` meets its contract: the line.
 use Rattle.page.proofs.Beginnings.{notice_begins}
-use borrow.Author.Rules.{rules}
 use Rattle.page.proofs.beginning.begin_notice.Goals as goal
 
 pub returns : goal.returns

@@ -1,6 +1,5 @@
 -- `begin_run` meets its contract: a bad crate, or the head.
 use Rattle.page.proofs.Beginnings.{refused_begins, head_begins}
-use borrow.Author.Rules.{rules}
 use Rattle.page.proofs.beginning.begin_run.Goals as goal
 
 pub returns-then-not-is_good_population : goal.returns-then-not-is_good_population

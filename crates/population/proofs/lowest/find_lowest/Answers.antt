@@ -1,7 +1,4 @@
 -- `find_lowest` meets its contract: of one tag the first is the only one.
-use Prim.Native.Nat.{◌≤◌}
-use borrow.Author.Rules.{rules}
-use mathlib.Core.Path.{◌≡◌}
 use native.Mathlib.Omega.{arith}
 use Rattle.frame.proofs.Tests.{holds, fails}
 use Rattle.population.proofs.Selects.{lowest_none, lowest_one, lowest_not_one}

@@ -1,12 +1,10 @@
-use Prim.Native.Nat.{◌-◌, ◌≤◌}
-use borrow.Author.Rules.{rules}
-use mathlib.Core.Path.{◌≡◌, sym, ◌∙◌}
+use mathlib.Core.Path.{sym, ◌∙◌}
 use native.Mathlib.Omega.{arith}
 use Rattle.frame.proofs.Tests.{holds, fails}
 use Rattle.population.proofs.Firsts.{first_none, first_here, first_next}
 use Rattle.population.proofs.Selects.{lowest_many, lowest_few}
 use Rattle.population.specs.Places.{place_at}
-use Rattle.population.specs.Lowest.{selected_at, first_tag, lowest}
+use Rattle.population.specs.Lowest.{selected_at}
 use Rattle.population.proofs.lowest.scan.Goals as goal
 
 pub returns-then-tags-gt16 : goal.returns-then-tags-gt16

@@ -1,4 +1,3 @@
-use borrow.Author.Rules.{rules}
 use mathlib.Core.Path.{sym, ◌∙◌}
 use Rattle.population.proofs.Matches.{empty_mask, past_bank, in_bank}
 use Rattle.population.proofs.matching.is_mask_found.Goals as goal

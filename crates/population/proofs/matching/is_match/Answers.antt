@@ -1,4 +1,3 @@
-use borrow.Author.Rules.{rules}
 use Rattle.population.proofs.Matches.{match_empty, match_turned, match_plain}
 use Rattle.population.proofs.matching.is_match.Goals as goal
 

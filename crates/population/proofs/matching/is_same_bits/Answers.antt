@@ -1,4 +1,3 @@
-use borrow.Author.Rules.{rules}
 use Rattle.population.proofs.Bits.{rest_differs, rest_same}
 use Rattle.population.proofs.matching.is_same_bits.Goals as goal
 

@@ -1,11 +1,8 @@
-use Prim.Native.Nat.{◌*◌, ◌≤◌}
-use borrow.Author.Rules.{rules}
-use mathlib.Core.Path.{◌≡◌, refl, sym, ◌∙◌}
+use mathlib.Core.Path.{refl, sym, ◌∙◌}
 use native.Mathlib.Omega.{arith}
 use Rattle.population.proofs.Below.{none_below}
 use Rattle.population.proofs.Bits.{byte_same, byte_differs}
-use Rattle.population.specs.Below.{all_below}
-use Rattle.population.specs.Matching.{same_bit, same_bits}
+use Rattle.population.specs.Matching.{same_bits}
 use Rattle.population.proofs.matching.is_same_bytes.Goals as goal
 
 pub loop-k-init : goal.loop-k-init

@@ -1,9 +1,5 @@
 use Prim.Native.Nat.{◌*◌, ◌≤◌}
-use borrow.Author.Rules.{rules}
-use mathlib.Core.Path.{◌≡◌, refl, sym, ◌∙◌}
-use native.Mathlib.Omega.{arith}
-use Rattle.population.proofs.Below.{none_below}
-use Rattle.population.proofs.Bits.{byte_same, byte_differs}
+use mathlib.Core.Path.{◌≡◌}
 use Rattle.population.specs.Below.{all_below}
 use Rattle.population.specs.Matching.{same_bit, same_bits}
 use Rattle.population.proofs.matching.is_same_bytes.Given as goal

@@ -1,4 +1,3 @@
-use borrow.Author.Rules.{rules}
 use Rattle.frame.proofs.Tests.{holds, fails}
 use Rattle.population.proofs.Populations.{apart_else}
 use Rattle.population.specs.Places.{apart}

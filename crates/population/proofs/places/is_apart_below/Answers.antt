@@ -1,10 +1,7 @@
-use Prim.Native.Nat.{◌≤◌}
-use borrow.Author.Rules.{rules}
-use mathlib.Core.Path.{◌≡◌, refl, sym, ◌∙◌}
+use mathlib.Core.Path.{refl, sym, ◌∙◌}
 use native.Mathlib.Omega.{arith}
 use Rattle.frame.proofs.Tests.{not_holds, not_fails}
 use Rattle.population.proofs.Below.{none_below, below_holds, below_fails}
-use Rattle.population.specs.Below.{all_below}
 use Rattle.population.specs.Places.{ApartFrom, apart_below, place_at}
 use Rattle.population.proofs.places.is_apart_below.Goals as goal
 

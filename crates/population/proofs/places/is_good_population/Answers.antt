@@ -1,5 +1,4 @@
 -- `is_good_population` meets its contract: one tag is held against no other.
-use borrow.Author.Rules.{rules}
 use Rattle.population.proofs.Populations.{population_alone}
 use Rattle.population.specs.Places.{place_at}
 use Rattle.population.proofs.places.is_good_population.Goals as goal

@@ -1,11 +1,9 @@
-use Prim.Native.Nat.{◌≤◌}
 use borrow.Author.Tests.{le-leb, lt-leb}
-use mathlib.Core.Path.{◌≡◌, sym, ◌∙◌}
+use mathlib.Core.Path.{sym, ◌∙◌}
 use native.Mathlib.Omega.{arith}
 use Rattle.frame.proofs.Tests.{not_holds, not_fails}
 use Rattle.population.proofs.Below.{none_below, below_holds, below_fails}
-use Rattle.population.specs.Below.{all_below}
-use Rattle.population.specs.Places.{good_at, good_population}
+use Rattle.population.specs.Places.{good_population}
 use Rattle.population.proofs.places.is_good_scattered.Goals as goal
 
 pub returns-then-tags-gt16 : goal.returns-then-tags-gt16

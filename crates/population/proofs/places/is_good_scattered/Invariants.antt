@@ -1,9 +1,5 @@
 use Prim.Native.Nat.{◌≤◌}
-use borrow.Author.Tests.{le-leb, lt-leb}
-use mathlib.Core.Path.{◌≡◌, sym, ◌∙◌}
-use native.Mathlib.Omega.{arith}
-use Rattle.frame.proofs.Tests.{not_holds, not_fails}
-use Rattle.population.proofs.Below.{none_below, below_holds, below_fails}
+use mathlib.Core.Path.{◌≡◌}
 use Rattle.population.specs.Below.{all_below}
 use Rattle.population.specs.Places.{good_at, good_population}
 use Rattle.population.proofs.places.is_good_scattered.Given as goal

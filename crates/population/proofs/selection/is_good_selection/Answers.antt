@@ -1,4 +1,3 @@
-use borrow.Author.Rules.{rules}
 use Rattle.population.proofs.Takings.{none_is_good, taken_decides}
 use Rattle.population.proofs.selection.is_good_selection.Goals as goal
 

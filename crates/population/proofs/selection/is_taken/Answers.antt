@@ -1,4 +1,3 @@
-use borrow.Author.Rules.{rules}
 use mathlib.Core.Path.{refl}
 use Rattle.frame.proofs.Tests.{not_holds, not_fails}
 use Rattle.population.proofs.Takings.{other_target, other_action, reserved_bank, truncates, length_decides}

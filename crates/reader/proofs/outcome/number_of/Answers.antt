@@ -1,6 +1,5 @@
 -- `number_of` meets its contract, outcome by outcome.
 use Rattle.reader.specs.Outcomes.{number_of}
-use borrow.Author.Rules.{rules}
 use Rattle.reader.proofs.outcome.number_of.Goals as goal
 
 pub returns-in-Answered : goal.returns-in-Answered

@@ -1,7 +1,6 @@
 -- `reason_of` meets its contract, outcome by outcome.
 use mathlib.Core.Path.{ap, sym, ◌∙◌}
 use Rattle.reader.specs.Outcomes.{reason_of}
-use borrow.Author.Rules.{rules}
 use Rattle.reader.proofs.outcome.reason_of.Goals as goal
 
 pub returns-in-Dropped : goal.returns-in-Dropped

@@ -1,5 +1,4 @@
 -- `raise` meets its contract: each arm is the choice of `raised` under its test.
-use borrow.Author.Rules.{rules}
 use borrow.Author.Tests.{eq-eqb, ne_eqb}
 use Rattle.reader.specs.Tallies.{raised, limit}
 use Rattle.frame.proofs.Picks.{pick_true, pick_false}

@@ -1,11 +1,6 @@
 -- `any_long` meets its contract: the sizes from i on tell whether one is long.
-use Prim.Native.Nat.{◌-◌}
-use lib.ListN.{length, drop}
-use mathlib.Core.Path.{◌≡◌, refl}
-use native.Mathlib.Omega.{arith}
+use mathlib.Core.Path.{refl}
 use Rattle.report.proofs.NotRun.{one_long, not_long, none_long}
-use Rattle.report.specs.Report.{any_long}
-use borrow.Author.Rules.{rules}
 use Rattle.report.proofs.limits.any_long.Goals as goal
 
 pub loop-i-init : goal.loop-i-init

@@ -1,6 +1,5 @@
 -- `judge` meets its contract: readable comes first, then the lengths.
 use Rattle.report.proofs.NotRun.{not_readable, readable_long, readable_fit}
-use borrow.Author.Rules.{rules}
 use Rattle.report.proofs.limits.judge.Goals as goal
 
 pub returns-then-not-readable : goal.returns-then-not-readable

@@ -1,6 +1,5 @@
 -- `too_long` meets its contract: the commands first, then the tags.
 use Rattle.report.proofs.NotRun.{by_commands, by_sizes}
-use borrow.Author.Rules.{rules}
 use Rattle.report.proofs.limits.too_long.Goals as goal
 
 pub returns-then-commands-gt32768 : goal.returns-then-commands-gt32768

@@ -4,7 +4,6 @@ use Rattle.report.specs.Lines.{too_long_line, unreadable_line}
 use Rattle.report.specs.Report.{notice_of}
 use Rattle.report.specs.declared.limits.Files.TheVariants.{Unreadable, TooLong, Fit}
 use mathlib.Core.Path.{refl}
-use borrow.Author.Rules.{rules}
 use Rattle.report.proofs.limits.write_notice.Goals as goal
 
 pub returns-in-Unreadable : goal.returns-in-Unreadable

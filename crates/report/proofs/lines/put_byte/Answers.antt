@@ -1,7 +1,6 @@
 -- `put_byte` meets its contract: two digits, and the separator.
 use native.Mathlib.Omega.{arith}
 use Rattle.report.proofs.LinePuts.{digits_next, separated_put}
-use borrow.Author.Rules.{rules}
 use Rattle.report.proofs.lines.put_byte.Goals as goal
 
 pub bounds-buffer-next : goal.bounds-buffer-next

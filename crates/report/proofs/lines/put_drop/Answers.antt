@@ -2,7 +2,6 @@
 use native.Mathlib.Omega.{arith}
 use Rattle.report.proofs.LinePuts.{word_put, drop_put}
 use Rattle.report.specs.Lines.{drop_word}
-use borrow.Author.Rules.{rules}
 use Rattle.report.proofs.lines.put_drop.Goals as goal
 
 pub put_byte-requires : goal.put_byte-requires

@@ -1,13 +1,8 @@
 -- `put_frame` meets its contract. The loop's invariant: the bytes put, with those that are still to come, are the whole line.
-use Prim.Native.Nat.{◌+◌, ◌*◌, ◌-◌, ◌≤◌}
-use lib.ListN.{length, drop}
-use lib.Seq.{sets}
-use mathlib.Core.Path.{◌≡◌, refl, ◌∙◌}
+use mathlib.Core.Path.{refl, ◌∙◌}
 use native.Mathlib.Omega.{arith}
 use Rattle.frame.proofs.Stores.{length_put}
 use Rattle.report.proofs.LinePuts.{hex_next, frame_more, frame_whole}
-use Rattle.report.specs.Lines.{frame_line}
-use borrow.Author.Rules.{rules}
 use Rattle.report.proofs.lines.put_frame.Goals as goal
 
 pub loop-i-init : goal.loop-i-init

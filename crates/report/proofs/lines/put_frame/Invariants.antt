@@ -2,12 +2,8 @@
 use Prim.Native.Nat.{◌+◌, ◌*◌, ◌-◌, ◌≤◌}
 use lib.ListN.{length, drop}
 use lib.Seq.{sets}
-use mathlib.Core.Path.{◌≡◌, refl, ◌∙◌}
-use native.Mathlib.Omega.{arith}
-use Rattle.frame.proofs.Stores.{length_put}
-use Rattle.report.proofs.LinePuts.{hex_next, frame_more, frame_whole}
+use mathlib.Core.Path.{◌≡◌}
 use Rattle.report.specs.Lines.{frame_line}
-use borrow.Author.Rules.{rules}
 use Rattle.report.proofs.lines.put_frame.Given as goal
 
 abbrev pub invariant-loop-i : goal.invariant-loop-i

@@ -1,6 +1,5 @@
 -- `is_last` meets its contract: one answer for each outcome.
 use Rattle.report.specs.Lines.{ends}
-use borrow.Author.Rules.{rules}
 use Rattle.report.proofs.writing.is_last.Goals as goal
 
 pub returns-in-Answered : goal.returns-in-Answered

@@ -7,7 +7,6 @@ use Rattle.reader.specs.declared.outcome.Outcome.TheVariants.{Answered, AtEnd, I
 use Rattle.report.proofs.CallLines.{printed_as, drop_is, left_is}
 use Rattle.report.proofs.LinePuts.{counts_line_lem, refused_line_lem}
 use Rattle.report.specs.Lines.{line_for}
-use borrow.Author.Rules.{rules}
 use Rattle.report.proofs.writing.put_line.Goals as goal
 
 pub slice_bounds-put_frame-end : goal.slice_bounds-put_frame-end

@@ -1,14 +1,8 @@
 -- `write` meets its contract. The loop's invariant: what was put, and what the rest of the buffer takes from the state reached, is the
 -- piece.
-use Prim.Native.Nat.{suc, ◌-◌}
-use lib.ListN.{length}
-use mathlib.Core.Path.{◌≡◌, refl, ◌∙◌}
+use mathlib.Core.Path.{refl, ◌∙◌}
 use native.Mathlib.Omega.{arith}
-use Rattle.machine.specs.Machine.{work}
-use Rattle.frame.specs.Bytes.{pick}
-use Rattle.report.proofs.Pieces.{Going, going, goes, falls, too_short, filled, ended}
-use Rattle.report.specs.Writing.{state_at}
-use borrow.Author.Rules.{rules}
+use Rattle.report.proofs.Pieces.{going, goes, falls, too_short, filled, ended}
 use Rattle.report.proofs.writing.write.Goals as goal
 
 pub returns-then-buffer-lt-LONGEST_LINE : goal.returns-then-buffer-lt-LONGEST_LINE

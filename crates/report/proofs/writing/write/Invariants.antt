@@ -1,14 +1,12 @@
 -- `write` meets its contract. The loop's invariant: what was put, and what the rest of the buffer takes from the state reached, is the
 -- piece.
-use Prim.Native.Nat.{suc, ◌-◌}
+use Prim.Native.Nat.{suc}
 use lib.ListN.{length}
-use mathlib.Core.Path.{◌≡◌, refl, ◌∙◌}
-use native.Mathlib.Omega.{arith}
+use mathlib.Core.Path.{◌≡◌}
 use Rattle.machine.specs.Machine.{work}
 use Rattle.frame.specs.Bytes.{pick}
-use Rattle.report.proofs.Pieces.{Going, going, goes, falls, too_short, filled, ended}
+use Rattle.report.proofs.Pieces.{Going}
 use Rattle.report.specs.Writing.{state_at}
-use borrow.Author.Rules.{rules}
 use Rattle.report.proofs.writing.write.Given as goal
 
 abbrev pub invariant-loop-used : goal.invariant-loop-used

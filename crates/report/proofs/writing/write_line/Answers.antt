@@ -1,6 +1,5 @@
 -- `write_line` meets its contract: the machine's step beside a list with room, and its line.
 use Rattle.report.proofs.CallLines.{called_printable, called_line}
-use borrow.Author.Rules.{rules}
 use Rattle.report.proofs.writing.write_line.Goals as goal
 
 pub put_line-used-requires : goal.put_line-used-requires

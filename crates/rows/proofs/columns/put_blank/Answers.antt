@@ -1,7 +1,6 @@
 -- `put_blank` meets its contract: one row, two or three.
 use native.Mathlib.Omega.{arith}
 use Rattle.rows.proofs.Layers.{length_boxed, length_plain, one_row, two_rows, three_rows}
-use borrow.Author.Rules.{rules}
 use Rattle.rows.proofs.columns.put_blank.Goals as goal
 
 pub returns-then-reasons-le2 : goal.returns-then-reasons-le2

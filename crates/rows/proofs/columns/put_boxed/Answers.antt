@@ -1,6 +1,5 @@
 -- `put_boxed` meets its contract: a row that ends so.
 use Rattle.rows.specs.Columns.{boxed_row}
-use borrow.Author.Rules.{rules}
 use Rattle.rows.proofs.columns.put_boxed.Goals as goal
 
 pub returns : goal.returns

@@ -2,7 +2,6 @@
 use native.Mathlib.Omega.{arith}
 use Rattle.rows.proofs.Layers.{number_laid}
 use Rattle.text.proofs.Decimals.{length_decimal}
-use borrow.Author.Rules.{rules}
 use Rattle.rows.proofs.columns.put_number.Goals as goal
 
 pub overflow_add-at : goal.overflow_add-at

@@ -1,6 +1,5 @@
 -- `put_plain` meets its contract: a row that ends so.
 use Rattle.rows.specs.Columns.{plain_row}
-use borrow.Author.Rules.{rules}
 use Rattle.rows.proofs.columns.put_plain.Goals as goal
 
 pub returns : goal.returns

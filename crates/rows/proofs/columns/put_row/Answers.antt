@@ -3,7 +3,6 @@ use native.Mathlib.Omega.{arith}
 use Rattle.rows.proofs.Layers.{as_put}
 use Rattle.text.proofs.Laying.{join_laid}
 use Rattle.text.proofs.Spaces.{length_spaces}
-use borrow.Author.Rules.{rules}
 use Rattle.rows.proofs.columns.put_row.Goals as goal
 
 pub returns : goal.returns

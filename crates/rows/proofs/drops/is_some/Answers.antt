@@ -1,7 +1,6 @@
 -- `is_some` meets its contract: none, or one.
 use native.Mathlib.Omega.{arith}
 use Rattle.rows.proofs.Reasons.{none_shown, some_shown}
-use borrow.Author.Rules.{rules}
 use Rattle.rows.proofs.drops.is_some.Goals as goal
 
 pub returns-then-n-eq0 : goal.returns-then-n-eq0

@@ -2,7 +2,6 @@
 use native.Mathlib.Omega.{arith}
 use Rattle.rows.proofs.Reasons.{no_cell, no_more, cell_put, one_more}
 use Rattle.text.proofs.Decimals.{decimal_64}
-use borrow.Author.Rules.{rules}
 use Rattle.rows.proofs.drops.put_cell.Goals as goal
 
 pub returns-then-n-eq0 : goal.returns-then-n-eq0

@@ -1,7 +1,6 @@
 -- `put_reasons` meets its contract: the five, one behind the other.
 use native.Mathlib.Omega.{arith}
 use Rattle.rows.proofs.Reasons.{some_one, reasons_are}
-use borrow.Author.Rules.{rules}
 use Rattle.rows.proofs.drops.put_reasons.Goals as goal
 
 pub put_cell-second-requires : goal.put_cell-second-requires

@@ -1,7 +1,6 @@
 -- `reasons_in` meets its contract: the five together.
 use native.Mathlib.Omega.{arith}
 use Rattle.rows.specs.Rows.{reasons_in}
-use borrow.Author.Rules.{rules}
 use Rattle.rows.proofs.drops.reasons_in.Goals as goal
 
 pub returns : goal.returns

@@ -2,7 +2,6 @@
 use native.Mathlib.Omega.{arith}
 use Rattle.rows.proofs.RowTexts.{bytes_one, bytes_more}
 use Rattle.text.proofs.Decimals.{decimal_64}
-use borrow.Author.Rules.{rules}
 use Rattle.rows.proofs.row.put_bytes.Goals as goal
 
 pub returns-then-n-eq1 : goal.returns-then-n-eq1

@@ -3,7 +3,6 @@ use native.Mathlib.Omega.{arith}
 use Rattle.rows.proofs.RowTexts.{drop_rows_lem}
 use Rattle.rows.proofs.Reasons.{Short}
 use Rattle.text.proofs.Decimals.{decimal_64}
-use borrow.Author.Rules.{rules}
 use Rattle.rows.proofs.row.put_drop_rows.Goals as goal
 
 pub returns : goal.returns

@@ -3,7 +3,6 @@ use native.Mathlib.Omega.{arith}
 use Rattle.rows.proofs.Layers.{as_put}
 use Rattle.rows.proofs.RowTexts.{error_row_lem}
 use Rattle.text.proofs.Decimals.{decimal_64}
-use borrow.Author.Rules.{rules}
 use Rattle.rows.proofs.row.put_error_row.Goals as goal
 
 pub returns : goal.returns

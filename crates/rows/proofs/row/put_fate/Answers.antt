@@ -1,6 +1,5 @@
 -- `put_fate` meets its contract: the number of bytes, and what became of them.
 use Rattle.text.proofs.Chains.{more_by}
-use borrow.Author.Rules.{rules}
 use Rattle.rows.proofs.row.put_fate.Goals as goal
 
 pub returns : goal.returns

@@ -4,7 +4,6 @@ use Rattle.frame.proofs.Copies.{reaches_there}
 use Rattle.frame.proofs.Tests.{not_holds, not_fails}
 use Rattle.rows.proofs.RowTexts.{item_short, drops_item, error_item}
 use Rattle.text.proofs.Laying.{put_within, none_within}
-use borrow.Author.Rules.{rules}
 use Rattle.rows.proofs.row.put_item.Goals as goal
 
 pub returns-then-not-reaches : goal.returns-then-not-reaches

@@ -2,7 +2,6 @@
 use native.Mathlib.Omega.{arith}
 use Rattle.rows.proofs.RowTexts.{range_one, range_two}
 use Rattle.text.proofs.Decimals.{decimal_64}
-use borrow.Author.Rules.{rules}
 use Rattle.rows.proofs.row.put_range.Goals as goal
 
 pub returns-then-first-last : goal.returns-then-first-last

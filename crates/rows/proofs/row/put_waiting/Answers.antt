@@ -3,7 +3,6 @@ use Rattle.frame.proofs.Copies.{reaches_there}
 use Rattle.frame.proofs.Tests.{not_holds, not_fails}
 use Rattle.rows.proofs.RowTexts.{waiting_short}
 use Rattle.text.proofs.Laying.{put_within, none_within}
-use borrow.Author.Rules.{rules}
 use Rattle.rows.proofs.row.put_waiting.Goals as goal
 
 pub returns-then-not-reaches : goal.returns-then-not-reaches

@@ -2,7 +2,6 @@
 use native.Mathlib.Omega.{arith}
 use Rattle.rows.proofs.Layers.{as_put}
 use Rattle.rows.proofs.RowTexts.{waiting_row_lem}
-use borrow.Author.Rules.{rules}
 use Rattle.rows.proofs.row.put_waiting_row.Goals as goal
 
 pub returns : goal.returns

@@ -1,6 +1,5 @@
 -- `closes` meets its contract: one answer for each meaning of a call.
 use Rattle.sheet.specs.Items.{closes}
-use borrow.Author.Rules.{rules}
 use Rattle.sheet.proofs.items.closes.Goals as goal
 
 pub returns-in-Passed : goal.returns-in-Passed

@@ -2,7 +2,6 @@
 use mathlib.Core.Path.{ap, sym, ◌∙◌}
 use Rattle.sheet.proofs.Joining.{passed, failed}
 use Rattle.sheet.specs.Items.{failing}
-use borrow.Author.Rules.{rules}
 use Rattle.sheet.proofs.items.failing_of.Goals as goal
 
 pub returns-then-byte_at-ne255 : goal.returns-then-byte_at-ne255

@@ -1,6 +1,5 @@
 -- `is_joined` meets its contract, test by test.
 use Rattle.sheet.proofs.Joining.{first_item, behind_error, at_start, behind_drop}
-use borrow.Author.Rules.{rules}
 use Rattle.sheet.proofs.items.is_joined.Goals as goal
 
 pub returns-then-items-eq0 : goal.returns-then-items-eq0

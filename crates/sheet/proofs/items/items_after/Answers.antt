@@ -3,7 +3,6 @@ use mathlib.Core.Path.{ap, sym, ◌∙◌}
 use Rattle.frame.proofs.Tests.{holds, fails}
 use Rattle.sheet.proofs.Joining.{error_item, drop_grown, drop_item}
 use Rattle.sheet.specs.Items.{items_after}
-use borrow.Author.Rules.{rules}
 use Rattle.sheet.proofs.items.items_after.Goals as goal
 
 pub returns-then-is_joined : goal.returns-then-is_joined

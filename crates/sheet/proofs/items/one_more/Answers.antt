@@ -2,7 +2,6 @@
 use borrow.Author.Tests.{eq-eqb, ne_eqb}
 use Rattle.frame.proofs.Picks.{pick_true, pick_false}
 use Rattle.sheet.specs.Items.{one_more}
-use borrow.Author.Rules.{rules}
 use Rattle.sheet.proofs.items.one_more.Goals as goal
 
 pub returns-then-n-eq18446744073709551615 : goal.returns-then-n-eq18446744073709551615

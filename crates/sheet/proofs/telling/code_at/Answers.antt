@@ -1,7 +1,6 @@
 -- `code_at` meets its contract: behind the end stands 0.
 use Rattle.machine.specs.Machine.{code_at}
 use Rattle.failures.proofs.Besides.{no_code}
-use borrow.Author.Rules.{rules}
 use Rattle.sheet.proofs.telling.code_at.Goals as goal
 
 pub returns-then-input-cursor : goal.returns-then-input-cursor

@@ -2,7 +2,6 @@
 use borrow.Author.Tests.{leb-true, leb-false}
 use Rattle.frame.proofs.Tests.{not_holds, not_fails}
 use Rattle.sheet.proofs.Parts.{coded, command_none}
-use borrow.Author.Rules.{rules}
 use Rattle.sheet.proofs.telling.command_at.Goals as goal
 
 pub returns-then-not-fits : goal.returns-then-not-fits

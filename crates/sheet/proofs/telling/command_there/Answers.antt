@@ -1,6 +1,5 @@
 -- `command_there` meets its contract: some of it, or all.
 use Rattle.sheet.proofs.Parts.{command_cut, command_whole}
-use borrow.Author.Rules.{rules}
 use Rattle.sheet.proofs.telling.command_there.Goals as goal
 
 pub returns-then-input-first : goal.returns-then-input-first

@@ -1,6 +1,5 @@
 -- `is_told` meets its contract: at the end, or where another begins.
 use Rattle.sheet.proofs.Parts.{told_over, told_by}
-use borrow.Author.Rules.{rules}
 use Rattle.sheet.proofs.telling.is_told.Goals as goal
 
 pub returns-then-over : goal.returns-then-over

@@ -2,7 +2,6 @@
 use native.Mathlib.Omega.{arith}
 use borrow.Author.Tests.{not-true, not-false}
 use Rattle.sheet.proofs.Parts.{not_told, no_item, an_item}
-use borrow.Author.Rules.{rules}
 use Rattle.sheet.proofs.telling.put_last.Goals as goal
 
 pub returns-then-not-told : goal.returns-then-not-told

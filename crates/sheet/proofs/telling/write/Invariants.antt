@@ -1,13 +1,10 @@
 -- `write` meets its contract. The loop's invariant: what was put, and what the rest of the buffer takes from the state reached, is the piece.
 use lib.ListN.{length}
-use mathlib.Core.Path.{◌≡◌, refl, ◌∙◌}
-use native.Mathlib.Omega.{arith}
-use Rattle.sheet.proofs.Tellings.{falls, GoingOn, goes, less}
+use mathlib.Core.Path.{◌≡◌}
+use Rattle.sheet.proofs.Tellings.{GoingOn}
 use Rattle.sheet.specs.Sheet.{teller}
 use Rattle.sheet.specs.Writing.{standing_at}
-use Rattle.text.proofs.Written.{going, filled, ended}
 use Rattle.text.specs.Telling.{left}
-use borrow.Author.Rules.{rules}
 use Rattle.sheet.proofs.telling.write.Given as goal
 
 abbrev pub invariant-loop-buffer : goal.invariant-loop-buffer

@@ -1,7 +1,6 @@
 -- `write_part` meets its contract: the machine's step, and its part.
 use Rattle.sheet.proofs.Parts.{one_part}
 use Rattle.sheet.specs.Writing.{standing_at}
-use borrow.Author.Rules.{rules}
 use Rattle.sheet.proofs.telling.write_part.Goals as goal
 
 pub returns : goal.returns

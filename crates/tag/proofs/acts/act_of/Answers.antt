@@ -1,6 +1,5 @@
 -- `act_of` meets its contract: the verdict on the parsed command.
 use Rattle.tag.specs.Commands.{act_of}
-use borrow.Author.Rules.{rules}
 use Rattle.tag.proofs.acts.act_of.Goals as goal
 
 pub returns : goal.returns

@@ -1,5 +1,4 @@
 -- `kill_standing_to` meets its contract: the kill password stands at the start of Reserved.
-use borrow.Author.Rules.{rules}
 use Rattle.image.specs.Image.{bank_at, view, kill_password}
 use Rattle.tag.specs.Locks.{kill_standing}
 use Rattle.tag.proofs.acts.kill_standing_to.Goals as goal

@@ -1,5 +1,4 @@
 -- `standing_to` meets its contract: the access password stands four bytes behind the start of Reserved.
-use borrow.Author.Rules.{rules}
 use Rattle.image.specs.Image.{bank_at, view, access_password}
 use Rattle.tag.specs.Locks.{standing}
 use Rattle.tag.proofs.acts.standing_to.Goals as goal

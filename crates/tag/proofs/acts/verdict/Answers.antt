@@ -1,6 +1,5 @@
 -- `verdict` meets its contract, command by command.
 use Rattle.tag.specs.Commands.{inventory_verdict, read_verdict, write_verdict, lock_verdict, kill_verdict, verdict}
-use borrow.Author.Rules.{rules}
 use Rattle.tag.proofs.acts.verdict.Goals as goal
 
 pub returns-in-Malformed : goal.returns-in-Malformed

@@ -1,7 +1,6 @@
 -- `admit` meets its contract.
 use Rattle.frame.proofs.Picks.{pick_true, pick_false}
 use Rattle.tag.specs.Commands.{admitted}
-use borrow.Author.Rules.{rules}
 use Rattle.tag.proofs.admission.admit.Goals as goal
 
 pub returns-then-is_wrong : goal.returns-then-is_wrong

@@ -1,5 +1,4 @@
 -- `kill_act` meets its contract, variant by variant.
-use borrow.Author.Rules.{rules}
 use mathlib.Core.Path.{sym, ap}
 use Rattle.tag.specs.Commands.{kill_act}
 use Rattle.tag.proofs.lock_acts.kill_act.Goals as goal

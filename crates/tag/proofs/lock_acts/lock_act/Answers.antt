@@ -1,7 +1,6 @@
 -- `lock_act` meets its contract: the tests that led to a return say which check fails first.
 use Rattle.frame.proofs.Picks.{pick_true, pick_false}
 use Rattle.tag.specs.Commands.{lock_act}
-use borrow.Author.Rules.{rules}
 use Rattle.tag.proofs.lock_acts.lock_act.Goals as goal
 
 pub returns-then-not-is_secured : goal.returns-then-not-is_secured

@@ -1,5 +1,4 @@
 -- `is_secured` meets its contract, variant by variant.
-use borrow.Author.Rules.{rules}
 use mathlib.Core.Path.{sym, ap}
 use Rattle.tag.specs.Locks.{is_secured}
 use Rattle.tag.proofs.locks.is_secured.Goals as goal

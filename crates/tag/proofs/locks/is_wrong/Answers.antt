@@ -1,5 +1,4 @@
 -- `is_wrong` meets its contract, variant by variant.
-use borrow.Author.Rules.{rules}
 use mathlib.Core.Path.{sym, ap}
 use Rattle.tag.specs.Locks.{is_wrong}
 use Rattle.tag.proofs.locks.is_wrong.Goals as goal

@@ -1,5 +1,4 @@
 -- `masked_pair` meets its contract, bit by bit.
-use borrow.Author.Rules.{rules}
 use native.Mathlib.Omega.{arith}
 use Rattle.tag.specs.Locks.{masked_pair}
 use Rattle.tag.proofs.new_locks.masked_pair.Goals as goal

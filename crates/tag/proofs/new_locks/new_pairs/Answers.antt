@@ -1,5 +1,4 @@
 -- `new_pairs` meets its contract, pair by pair.
-use borrow.Author.Rules.{rules}
 use Rattle.tag.specs.Locks.{new_pairs}
 use Rattle.tag.proofs.new_locks.new_pairs.Goals as goal
 

@@ -1,5 +1,4 @@
 -- `refuses_lock` meets its contract: one pair that refuses is enough.
-use borrow.Author.Rules.{rules}
 use mathlib.Core.Bool.{or-true}
 use Rattle.tag.specs.Locks.{refuses_lock}
 use Rattle.tag.proofs.new_locks.refuses_lock.Goals as goal

@@ -1,5 +1,4 @@
 -- `aims_right` meets its contract: one failed test is enough, and at the end all hold.
-use borrow.Author.Rules.{rules}
 use borrow.Author.Tests.{le-leb, lt-leb}
 use mathlib.Core.Bool.{and-false}
 use Rattle.tag.specs.Commands.{count_in, aim_right}

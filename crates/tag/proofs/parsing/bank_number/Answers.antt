@@ -1,5 +1,4 @@
 -- `bank_number` meets its contract: a byte is a number.
-use borrow.Author.Rules.{rules}
 use native.Mathlib.Omega.{arith}
 use Rattle.tag.specs.Commands.{bank_in}
 use Rattle.tag.proofs.parsing.bank_number.Goals as goal

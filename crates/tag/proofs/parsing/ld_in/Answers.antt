@@ -1,5 +1,4 @@
 -- `ld_in` meets its contract: three bytes, high first.
-use borrow.Author.Rules.{rules}
 use Rattle.tag.specs.Commands.{bank_in, ld_in}
 use Rattle.tag.proofs.parsing.ld_in.Goals as goal
 

@@ -1,5 +1,4 @@
 -- `parse_command` meets its contract: the tests that led to a return say which command's rules hold.
-use borrow.Author.Rules.{rules}
 use borrow.Author.Tests.{eq-eqb, ne_eqb}
 use Rattle.frame.proofs.Picks.{pick_true, pick_false}
 use Rattle.tag.specs.Commands.{parse}

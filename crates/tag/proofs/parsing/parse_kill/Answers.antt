@@ -1,5 +1,4 @@
 -- `parse_kill` meets its contract.
-use borrow.Author.Rules.{rules}
 use borrow.Author.Tests.{eq-eqb, ne_eqb}
 use Rattle.frame.proofs.Picks.{pick_true, pick_false}
 use Rattle.tag.specs.Commands.{password_in, parse_kill}

@@ -1,5 +1,4 @@
 -- `parse_lock` meets its contract: mask and action are the two halves of LD's twenty bits.
-use borrow.Author.Rules.{rules}
 use borrow.Author.Tests.{eq-eqb, ne_eqb, lt-ltb, le-ltb}
 use mathlib.Core.Bool.{and-false}
 use Rattle.frame.proofs.Picks.{pick_true, pick_false}

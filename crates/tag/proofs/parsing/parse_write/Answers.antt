@@ -1,5 +1,4 @@
 -- `parse_write` meets its contract: each field is read where the definition reads it.
-use borrow.Author.Rules.{rules}
 use borrow.Author.Tests.{eq-eqb, ne_eqb}
 use mathlib.Core.Bool.{and-false}
 use Rattle.frame.proofs.Picks.{pick_true, pick_false}

@@ -1,5 +1,4 @@
 -- `allows_at` meets its contract: the tests that led to a return say which row of the table holds.
-use borrow.Author.Rules.{rules}
 use borrow.Author.Tests.{eq-eqb, ne_eqb}
 use Rattle.frame.proofs.Picks.{pick_true, pick_false}
 use Rattle.tag.specs.Locks.{allows}

@@ -1,5 +1,4 @@
 -- `may_read` meets its contract: only Reserved has regions that can refuse a Read.
-use borrow.Author.Rules.{rules}
 use borrow.Author.Tests.{eq-eqb, ne_eqb}
 use Rattle.frame.proofs.Picks.{pick_true, pick_false}
 use Rattle.tag.specs.Locks.{may_read}

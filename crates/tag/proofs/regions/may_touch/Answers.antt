@@ -1,5 +1,4 @@
 -- `may_touch` meets its contract: a region that is not touched lets every command through.
-use borrow.Author.Rules.{rules}
 use Rattle.tag.proofs.regions.may_touch.Goals as goal
 
 pub returns-then-touches_from : goal.returns-then-touches_from

@@ -1,5 +1,4 @@
 -- `may_touch_passwords` meets its contract: both regions let the command through.
-use borrow.Author.Rules.{rules}
 use Rattle.frame.proofs.Tests.{not_holds, not_fails}
 use Rattle.tag.specs.Locks.{may_touch_passwords}
 use Rattle.tag.proofs.regions.may_touch_passwords.Goals as goal

@@ -1,5 +1,4 @@
 -- `may_write` meets its contract: the bank's own pair decides, and of Reserved the pairs of the regions.
-use borrow.Author.Rules.{rules}
 use borrow.Author.Tests.{eq-eqb, ne_eqb}
 use Rattle.frame.proofs.Picks.{pick_true, pick_false}
 use Rattle.tag.specs.Locks.{may_write}

@@ -1,5 +1,4 @@
 -- `touches_from` meets its contract: differences are compared in the place of the sum.
-use borrow.Author.Rules.{rules}
 use Rattle.tag.proofs.Reach.{starts_behind, starts_inside, stops_before, reaches_in}
 use Rattle.tag.proofs.regions.touches_from.Goals as goal
 

@@ -1,6 +1,5 @@
 -- `is_length_broken` meets its contract: one failed test is enough, and at the end all hold.
 use Prim.Native.Nat.{◌+◌}
-use borrow.Author.Rules.{rules}
 use borrow.Author.Tests.{eq-eqb, ne_eqb, le-leb, lt-leb, lt-ltb, le-ltb}
 use mathlib.Core.Bool.{and-false}
 use native.Mathlib.Omega.{arith}

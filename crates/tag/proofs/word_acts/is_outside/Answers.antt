@@ -1,5 +1,4 @@
 -- `is_outside` meets its contract: words that do not fit are outside.
-use borrow.Author.Rules.{rules}
 use Rattle.frame.proofs.Tests.{holds, fails}
 use Rattle.tag.proofs.Reach.{fits_inside, runs_outside}
 use Rattle.tag.specs.Commands.{outside}

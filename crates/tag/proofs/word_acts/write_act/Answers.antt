@@ -4,7 +4,6 @@ use Rattle.frame.proofs.Picks.{pick_true, pick_false}
 use Rattle.image.specs.Image.{word_at}
 use Rattle.tag.proofs.Reach.{inside_near}
 use Rattle.tag.specs.Commands.{write_act}
-use borrow.Author.Rules.{rules}
 use Rattle.tag.proofs.word_acts.write_act.Goals as goal
 
 pub returns-then-is_outside : goal.returns-then-is_outside

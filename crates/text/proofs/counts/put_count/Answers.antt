@@ -1,7 +1,6 @@
 -- `put_count` meets its contract: the word, then the number.
 use native.Mathlib.Omega.{arith}
 use Rattle.text.proofs.CountPuts.{count_put, count_most}
-use borrow.Author.Rules.{rules}
 use Rattle.text.proofs.counts.put_count.Goals as goal
 
 pub returns : goal.returns

@@ -4,7 +4,6 @@ use Rattle.frame.proofs.Copies.{reaches_there}
 use Rattle.frame.proofs.Tests.{not_holds, not_fails}
 use Rattle.text.proofs.CountPuts.{counts_put, counts_none}
 use Rattle.text.specs.Counts.{left_word}
-use borrow.Author.Rules.{rules}
 use Rattle.text.proofs.counts.put_counts.Goals as goal
 
 pub returns-then-not-reaches : goal.returns-then-not-reaches

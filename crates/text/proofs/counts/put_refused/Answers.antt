@@ -4,7 +4,6 @@ use Rattle.frame.proofs.Copies.{reaches_there}
 use Rattle.frame.proofs.Tests.{not_holds, not_fails}
 use Rattle.text.proofs.CountPuts.{refused_put, refused_none}
 use Rattle.text.specs.Counts.{refused_word}
-use borrow.Author.Rules.{rules}
 use Rattle.text.proofs.counts.put_refused.Goals as goal
 
 pub returns-then-not-reaches : goal.returns-then-not-reaches

@@ -2,7 +2,6 @@
 use native.Mathlib.Omega.{arith}
 use Rattle.text.proofs.CountPuts.{tally_put}
 use Rattle.text.specs.Counts.{good_word, error_word, dropped_word, space_word}
-use borrow.Author.Rules.{rules}
 use Rattle.text.proofs.counts.put_tally.Goals as goal
 
 pub put_count-requires : goal.put_count-requires

@@ -1,7 +1,6 @@
 -- `put_two` meets its contract: one count behind the other.
 use native.Mathlib.Omega.{arith}
 use Rattle.text.proofs.CountPuts.{two_put}
-use borrow.Author.Rules.{rules}
 use Rattle.text.proofs.counts.put_two.Goals as goal
 
 pub returns : goal.returns

@@ -2,7 +2,6 @@
 use borrow.Author.Tests.{lt-ltb, le-ltb}
 use Rattle.frame.proofs.Picks.{pick_true, pick_false}
 use Rattle.text.specs.Digits.{hex_digit}
-use borrow.Author.Rules.{rules}
 use Rattle.text.proofs.digits.hex_digit.Goals as goal
 
 pub returns-then-n-lt10 : goal.returns-then-n-lt10

@@ -1,7 +1,6 @@
 -- `put_decimal` meets its contract. The loop's invariant: all digits have room, and those stored, with those of what is left, are those of the number.
-use Prim.Native.Nat.{ℕ, ◌+◌, ◌≤◌}
-use lib.ListN.{length, length-set}
-use lib.Seq.{sets}
+use Prim.Native.Nat.{ℕ}
+use lib.ListN.{length-set}
 use mathlib.Core.List.{[]}
 use mathlib.Core.Path.{◌≡◌, refl, ap, ◌∙◌}
 use native.Mathlib.Omega.{arith}
@@ -9,7 +8,6 @@ use Rattle.frame.proofs.Copies.{reaches_there}
 use Rattle.frame.proofs.Tests.{not_holds, not_fails}
 use Rattle.text.proofs.Decimals.{digit_put, digits_none, decimal_none_laid, decimal_laid}
 use Rattle.text.specs.Digits.{digits}
-use borrow.Author.Rules.{rules}
 use Rattle.text.proofs.digits.put_decimal.Goals as goal
 
 pub returns-then-not-reaches : goal.returns-then-not-reaches

@@ -1,15 +1,9 @@
 -- `put_decimal` meets its contract. The loop's invariant: all digits have room, and those stored, with those of what is left, are those of the number.
-use Prim.Native.Nat.{ℕ, ◌+◌, ◌≤◌}
-use lib.ListN.{length, length-set}
+use Prim.Native.Nat.{◌+◌, ◌≤◌}
+use lib.ListN.{length}
 use lib.Seq.{sets}
-use mathlib.Core.List.{[]}
-use mathlib.Core.Path.{◌≡◌, refl, ap, ◌∙◌}
-use native.Mathlib.Omega.{arith}
-use Rattle.frame.proofs.Copies.{reaches_there}
-use Rattle.frame.proofs.Tests.{not_holds, not_fails}
-use Rattle.text.proofs.Decimals.{digit_put, digits_none, decimal_none_laid, decimal_laid}
+use mathlib.Core.Path.{◌≡◌}
 use Rattle.text.specs.Digits.{digits}
-use borrow.Author.Rules.{rules}
 use Rattle.text.proofs.digits.put_decimal.Given as goal
 
 abbrev pub invariant-loop-i : goal.invariant-loop-i

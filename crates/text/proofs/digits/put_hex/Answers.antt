@@ -4,7 +4,6 @@ use native.Mathlib.Omega.{arith}
 use Rattle.frame.proofs.Copies.{reaches_there}
 use Rattle.frame.proofs.Tests.{not_holds, not_fails}
 use Rattle.text.proofs.HexPuts.{hex_none_laid, hex_laid}
-use borrow.Author.Rules.{rules}
 use Rattle.text.proofs.digits.put_hex.Goals as goal
 
 pub returns-then-not-reaches : goal.returns-then-not-reaches

@@ -1,5 +1,4 @@
 -- `width` meets its contract. The loop's invariant: the digits counted, with those of what is left, are those of the number.
-use Prim.Native.Nat.{◌+◌}
 use mathlib.Core.Path.{◌≡◌, refl}
 use native.Mathlib.Omega.{arith}
 use Rattle.text.proofs.Decimals.{width_one, width_more, width_64}

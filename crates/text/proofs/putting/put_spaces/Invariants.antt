@@ -1,14 +1,9 @@
 -- `put_spaces` meets its contract. The loop's invariant: all have room, and the first i of them stand there.
 use Prim.Native.Nat.{◌+◌, ◌-◌, ◌≤◌}
-use lib.ListN.{length, length-set}
+use lib.ListN.{length}
 use lib.Seq.{sets}
-use mathlib.Core.Path.{◌≡◌, refl, ap, sym}
-use native.Mathlib.Omega.{arith}
-use Rattle.frame.proofs.Copies.{reaches_there}
-use Rattle.frame.proofs.Tests.{not_holds, not_fails}
-use Rattle.text.proofs.Spaces.{spaces_none_laid, spaces_laid, no_space, space_more}
+use mathlib.Core.Path.{◌≡◌}
 use Rattle.text.specs.Laying.{spaces}
-use borrow.Author.Rules.{rules}
 use Rattle.text.proofs.putting.put_spaces.Given as goal
 
 abbrev pub invariant-loop-i : goal.invariant-loop-i

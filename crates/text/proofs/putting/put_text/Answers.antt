@@ -4,7 +4,6 @@ use Rattle.frame.proofs.Copies.{reaches_there}
 use Rattle.frame.proofs.Tests.{not_holds, not_fails}
 use Rattle.text.proofs.Laying.{put_laid, none_laid}
 use Rattle.text.proofs.Puts.{text_put}
-use borrow.Author.Rules.{rules}
 use Rattle.text.proofs.putting.put_text.Goals as goal
 
 pub returns-then-not-reaches : goal.returns-then-not-reaches

@@ -2,7 +2,6 @@
 use mathlib.Core.Path.{ap}
 use Rattle.reader.specs.declared.state.Reader.{Reader}
 use Rattle.reader.specs.declared.tally.Tally.{Tally}
-use borrow.Author.Rules.{rules}
 use Rattle.reader.proofs.state.Reader.fresh.Goals as goal
 
 abbrev at_start : Tally → Reader

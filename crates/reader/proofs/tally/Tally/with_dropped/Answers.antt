@@ -2,7 +2,6 @@
 use mathlib.Core.Path.{sym, ap, ◌∙◌}
 use Rattle.reader.specs.Tallies.{with_dropped}
 use Rattle.frame.specs.declared.finding.Reason.{Reason}
-use borrow.Author.Rules.{rules}
 use Rattle.reader.proofs.tally.Tally.with_dropped.Goals as goal
 
 pub returns-in-NoHeader : goal.returns-in-NoHeader

@@ -1,5 +1,4 @@
 -- `Tally::with_good` meets its contract: what `raise` hands back is the raised count.
-use borrow.Author.Rules.{rules}
 use Rattle.reader.proofs.tally.Tally.with_good.Goals as goal
 
 pub returns : goal.returns

@@ -1,5 +1,4 @@
 -- `Tally::with_wrong_end` meets its contract: what `raise` hands back is the raised count.
-use borrow.Author.Rules.{rules}
 use Rattle.reader.proofs.tally.Tally.with_wrong_end.Goals as goal
 
 pub returns : goal.returns

@@ -1,5 +1,4 @@
 -- `start` meets its contract: a fresh tally at the first byte, and an empty list.
-use borrow.Author.Rules.{rules}
 use Rattle.report.proofs.writing.Progress.start.Goals as goal
 
 pub returns : goal.returns

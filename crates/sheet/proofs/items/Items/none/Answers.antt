@@ -2,7 +2,6 @@
 use mathlib.Core.Path.{ap}
 use Rattle.reader.specs.declared.tally.Tally.{Tally}
 use Rattle.sheet.specs.Items.{item_of, items_of}
-use borrow.Author.Rules.{rules}
 use Rattle.sheet.proofs.items.Items.none.Goals as goal
 
 pub returns : goal.returns

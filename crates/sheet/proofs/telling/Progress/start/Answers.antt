@@ -1,5 +1,4 @@
 -- `start` meets its contract: a fresh tally at the first byte, and no items.
-use borrow.Author.Rules.{rules}
 use Rattle.sheet.proofs.telling.Progress.start.Goals as goal
 
 pub returns : goal.returns
