@@ -4,6 +4,7 @@ ghost use Rattle.frame.specs.Frames.{sum};
 ghost use Rattle.io.specs.Counts.{IsPrefixLen};
 
 use crate::read_file;
+use std::rt::Files;
 
 // How many tags there are, how many bytes of the memory their files have taken, and whether no read failed.
 #[derive(Clone, Copy)]
@@ -26,7 +27,7 @@ fn name_of(number: usize) -> [u8; 10]
     name
 }
 
-fn read_into(memory: &mut [u8], sizes: &mut [u64]) -> Tags
+fn read_into(files: &impl Files, memory: &mut [u8], sizes: &mut [u64]) -> Tags
     requires memory_len { length memory.old ≡ 65536 }
     requires sizes_len { length sizes.old ≡ 17 }
     ensures prefix_len { IsPrefixLen result.count sizes.new }
@@ -39,7 +40,7 @@ fn read_into(memory: &mut [u8], sizes: &mut [u64]) -> Tags
     let mut i = 0;
     while i < 17 {
         let name = name_of(i);
-        let read = read_file(&name, &mut memory[at..at + ROOM]);
+        let read = read_file(files, &name, &mut memory[at..at + ROOM]);
         sizes[i] = read.length as u64;
         at += read.length;
         readable = readable && read.readable;
@@ -57,10 +58,10 @@ fn read_into(memory: &mut [u8], sizes: &mut [u64]) -> Tags
 
 // "The number of tags is one more than the highest number from 00 to 16 whose file can be opened": a seventeenth is looked for, so that it is seen that they
 // are too many. A file below that can't be opened counts as empty.
-pub fn read_tags(memory: &mut [u8; 65536], sizes: &mut [u64; 17]) -> Tags
+pub fn read_tags(files: &impl Files, memory: &mut [u8; 65536], sizes: &mut [u64; 17]) -> Tags
     ensures prefix_len { IsPrefixLen result.count sizes.new }
     ensures prefix_len_2 { IsPrefixLen result.length memory.new }
     ensures length_value { result.length ≡ sum sizes.new }
 {
-    read_into(memory, sizes)
+    read_into(files, memory, sizes)
 }

@@ -1,0 +1,9 @@
+-- What was read stands in the buffer, and each turn leaves less of it.
+use Rattle.std.proofs.Common.{length, ◌-◌, ◌≤◌}
+use Rattle.files.proofs.read_open.Given as goal
+
+abbrev pub invariant-loop-length : goal.invariant-loop-length
+invariant-loop-length g l = l.length ≤ length l.buffer
+
+abbrev pub decreases-loop-length : goal.decreases-loop-length
+decreases-loop-length g l = length l.initial.buffer - l.length
