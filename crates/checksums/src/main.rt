@@ -1,10 +1,13 @@
 // Works every published CRC by both engines, and prints the bytes with the CRC behind them, high byte first, as the source does. The stored output
 // was written from the sources: it is the published frames.
 #![tactic(auto)]
+
 use crc::{Direction, lookup};
-use libc::STDOUT_FILENO;
 
 mod frames;
+
+// The file descriptor of standard output.
+const STDOUT_FILENO: i32 = 1;
 
 fn digit(n: u8) -> u8 {
     if n % 16 < 10 {
