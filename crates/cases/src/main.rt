@@ -1,8 +1,9 @@
 // Runs whose answers were written down from document 01, apart from the code; a script laid out their bytes and checks. Each heading is
 // followed by the report.
 #![tactic(auto)]
+
+use console::STDOUT_FILENO;
 use frame::copying::copy;
-use libc::STDOUT_FILENO;
 use samples::{FALSE_HEADER, FILLER, HISTORY, LONGEST, SAMPLE, TRUNCATED};
 
 // One tag, which has all of the memory.

@@ -1,15 +1,18 @@
 // The report of a run on standard output.
 #![tactic(auto)]
+
 ghost use Rattle.std.specs.Prelude.{◌≤◌, length};
 ghost use Rattle.console.specs.Console.{Ran, RanFrom, Noticed};
 
-use libc::STDOUT_FILENO;
 use places::lay_out;
 use population::places::Place;
 use report::limits::{Files, judge, write_notice};
 use report::writing::{Progress, write};
 
 pub mod places;
+
+// The file descriptor of standard output.
+pub const STDOUT_FILENO: i32 = 1;
 
 // Piece by piece. Where standard output refuses some of the report, nothing more is written, so that no report ends with its counts and
 // lacks a line.

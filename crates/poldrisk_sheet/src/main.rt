@@ -1,14 +1,15 @@
 // The program for the sheet: reads commands.bin and the tags' files from the folder that it is run in, and prints the sheet that is signed.
 #![tactic(auto)]
+
 ghost use Rattle.std.specs.Prelude.{◌≤◌, length, replicate};
 ghost use Rattle.sheet.specs.Itemised.{LeftBySome};
 ghost use Rattle.sheet.specs.Sheet.{begun_on};
 ghost use Rattle.sheet.specs.Writing.{begun, standing_at};
 
+use console::STDOUT_FILENO;
 use console::places::places_of;
 use files::read_file;
 use files::tags::read_tags;
-use libc::STDOUT_FILENO;
 use page::beginning::begin;
 use population::places::Place;
 use sheet::telling::{Progress, write};
@@ -82,12 +83,12 @@ fn print(numbered: bool, readable: bool, commands: &[u8], memory: &mut [u8], siz
 
 // One tag in tag.img, or else a crate. Where no file of a tag can be opened it is one tag, and its file counts as empty. Each buffer has room for more
 // than the files may have, so that one that is too long is seen to be.
-fn main() {
+fn main(rt: HostRuntime) {
     let mut commands = io::large_buffer();
     let mut memory = io::large_buffer();
-    let first = read_file(b"commands.bin", &mut commands);
+    let first = read_file(&rt, b"commands.bin", &mut commands);
     let length = first.length;
-    let one = read_file(b"tag.img", &mut memory);
+    let one = read_file(&rt, b"tag.img", &mut memory);
     let size = one.length;
     if one.opened {
         let readable = first.readable && one.readable;
@@ -102,7 +103,7 @@ fn main() {
         return;
     }
     let mut sizes = [0u64; 17];
-    let tags = read_tags(&mut memory, &mut sizes);
+    let tags = read_tags(&rt, &mut memory, &mut sizes);
     let readable = first.readable && tags.readable;
     let used = tags.length;
     let count = tags.count;

@@ -1,12 +1,15 @@
 // Runs every published command on each image that must give one of its published answers, and prints the answer under the heading of the
 // source. The stored output was written from the source: it is the published frames.
 #![tactic(auto)]
-use libc::STDOUT_FILENO;
+
 use population::places::Place;
 use report::writing::{Progress, write};
 
 mod commands;
 mod tags;
+
+// The file descriptor of standard output.
+const STDOUT_FILENO: i32 = 1;
 
 // A buffer of the longest line takes the first line of the report alone: the answer frame, or what the report says of a call that gave none.
 fn run(heading: &[u8], tag: [u8; 86], command: &[u8]) {
