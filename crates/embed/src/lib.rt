@@ -1,6 +1,7 @@
 // The bench with a crate of tags and its list of failures, for C and Rust: two functions on numbers and lent slices, one for a call and one that acknowledges
 // failures. A slice passes as a pointer and a length, the selection's 39 bytes as a pointer.
 #![tactic(auto)]
+
 ghost use Rattle.std.specs.Prelude.{◌≡◌, ◌≤◌, length, get_or};
 ghost use Rattle.calls.specs.Calls.{lent_of};
 ghost use Rattle.population.specs.Below.{all_below};

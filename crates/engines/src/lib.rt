@@ -1,6 +1,7 @@
 // The CRC engines for C and Rust, each as a function of its own, so that a benchmark can time them side by side; the bench itself is in `embed`. A slice
 // passes as a pointer and a length, an array as a pointer.
 #![tactic(auto)]
+
 ghost use Rattle.std.specs.Prelude.{◌≡◌, ◌-◌};
 ghost use Rattle.crc.specs.Crc.{tag_crc, reader_crc};
 ghost use Rattle.crc.specs.Tables.{near_table, far_table, table_crc};
