@@ -1,5 +1,5 @@
-// The bench with a crate of tags and its list of failures, for C and Rust: two functions on numbers and lent slices, one for a call and one that acknowledges
-// failures. A slice passes as a pointer and a length, the selection's 39 bytes as a pointer.
+// The bench with a crate of tags and its list of failures, on numbers and lent slices as C has them: two functions, one for a call and one that acknowledges
+// failures. `embed_c` exports them.
 #![tactic(auto)]
 
 ghost use Rattle.std.specs.Prelude.{◌≡◌, ◌≤◌, length, get_or};
@@ -212,8 +212,7 @@ fn call_on(
 // for none, the number of the first tag that may still be handed out, 16 for none, how many bytes the selection has, and how many records are held.
 // The result is the answer number, or 20 where `state` does not have thirteen numbers, 21 where a count is more than a tally can hold, 22 where `places`
 // has an odd number of numbers, or one that no place can hold, 23 where `records` does not have three for each record; under these four nothing changes.
-#[unsafe(no_mangle)]
-pub extern "C" fn poldrisk_call(
+pub fn poldrisk_call(
     input: &[u8],
     memory: &mut [u8],
     output: &mut [u8],
@@ -245,8 +244,7 @@ pub extern "C" fn poldrisk_call(
 
 // The first `count` records go and the rest move up, and nothing else changes: 16. More than are held, or more held than have room: 15, and nothing changes, as
 // where `state` does not have thirteen numbers, 20, or `records` not three for each record, 23.
-#[unsafe(no_mangle)]
-pub extern "C" fn poldrisk_acknowledge(records: &mut [u64], state: &mut [u64], count: u64) -> u64
+pub fn poldrisk_acknowledge(records: &mut [u64], state: &mut [u64], count: u64) -> u64
     ensures { list_left_by result records.new state.new ≡ acknowledged_on records.old state.old count }
 {
     if state.len() != 13 {
