@@ -1,6 +1,8 @@
 # What ./run and ./sheet have in common: the folder that is asked for, and the program that is proved and built for it. Taken in by a script that has set
 # `top`, the repository's own folder, and leaves no search path to cd.
 
+. "$top/shell/build.sh"
+
 # A seventeenth tag is one too many, and the program is to see it.
 tag_numbers='00 01 02 03 04 05 06 07 08 09 10 11 12 13 14 15 16'
 
@@ -35,16 +37,20 @@ is_crate() {
     return 1
 }
 
-# The proofs take minutes, so each crate that is proved now is told as soon as it is.
+# The proofs take minutes, so each crate that is proved now is told as soon as it is: rt names it, and then says whether it is proved.
 prove() {
     say "proving and building the program, where that is not done yet; from nothing it takes minutes"
-    (
-        cd "$top" && rt check "$1" 2>&1
+    {
+        build_program "$1"
         echo "$?" >"$scratch/status"
-    ) | while IFS= read -r line; do
+    } | while IFS= read -r line; do
         printf '%s\n' "$line" >>"$scratch/said"
         case $line in
-        'rt: '*' proved ('[0-9]*' s)') printf '%s\n' "$line" >&2 ;;
+        'crate '*': modules '*)
+            crate=${line%%:*}
+            crate=${crate#crate }
+            ;;
+        'logic=proved '*) printf 'rt: %s proved\n' "$crate" >&2 ;;
         esac
     done
     [ "$(cat "$scratch/status")" = 0 ] && return

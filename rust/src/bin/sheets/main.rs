@@ -4,9 +4,9 @@
 //!     sheets [FOLDERS] [SEED] [FOLDER]
 //!
 //! A folder is drawn from the seed and its number alone, so that a difference is replayed by naming both.
-//! The folder that it was found in is kept. The program is `target/bin/poldrisk_sheet` of the repository, or the
-//! one that the variable `POLDRISK_SHEET` names. A run in which some situation was never met counts as
-//! failed: it would have compared less than it says.
+//! The folder that it was found in is kept. The program is `crates/poldrisk_sheet/out/poldrisk_sheet` of the
+//! repository, or the one that the variable `POLDRISK_SHEET` names. A run in which some situation was never
+//! met counts as failed: it would have compared less than it says.
 
 mod drawing;
 mod expected;

@@ -21,12 +21,12 @@ pub struct Program {
 
 impl Program {
     pub fn new(seed: u64) -> Result<Program, String> {
-        let own = Path::new(env!("CARGO_MANIFEST_DIR")).join("../target/bin/poldrisk_sheet");
+        let own = Path::new(env!("CARGO_MANIFEST_DIR")).join("../crates/poldrisk_sheet/out/poldrisk_sheet");
         let named = var_os(VARIABLE).map_or(own, PathBuf::from);
         // it is run in other folders than this one, so its path is to be a whole one
         let path = canonicalize(&named).map_err(|_| {
             format!(
-                "{} is missing: `rt check poldrisk_sheet` at the repository's top builds it",
+                "{} is missing: `rt run` in the folder crates/poldrisk_sheet builds it",
                 named.display()
             )
         })?;
