@@ -1,7 +1,7 @@
 /* A crate of three tags, the commands of a line's acceptance, what the bench answers, and the list of
  * failures to sign: it has room for three, and is printed and acknowledged when it is full and at the end.
  *
- *     rt staticlib embed
+ *     ci/library
  *     cc -Iinclude examples/sample.c target/staticlib/libembed.a -o target/sample && target/sample
  */
 #include <poldrisk.h>

@@ -1,7 +1,7 @@
 /* Poldrisk for C: a bench that plays a UHF reader module with a crate of Gen2 tags in front of it, and
  * lists every failure until it is acknowledged.
  *
- * Link with target/staticlib/libembed.a, which `rt staticlib embed` writes. The library keeps
+ * Link with target/staticlib/libembed.a, which `ci/library` writes. The library keeps
  * nothing between calls, allocates nothing and calls nothing; it may be used from any thread, as
  * long as no two calls are lent the same memory at the same time.
  */

@@ -1,6 +1,6 @@
 //! Points the linker at the static library of the proved bench, `target/staticlib/libembed.a`
-//! of the repository. `rt staticlib embed` at the repository's top makes it. Under the feature
-//! `engines` the benchmark of the CRC engines takes `libengines.a` beside it, which `rt staticlib engines` makes.
+//! of the repository. `ci/library` at the repository's top makes it. Under the feature
+//! `engines` the benchmark of the CRC engines takes `libengines.a` beside it, which `ci/library engines` makes.
 
 use std::env;
 use std::path::Path;
@@ -15,7 +15,7 @@ fn main() {
     println!("cargo:rerun-if-changed={}", library.display());
     if !library.exists() {
         eprintln!(
-            "{library:?} is missing: run `rt staticlib {LIBRARY}` at the repository's top first"
+            "{library:?} is missing: run `ci/library {LIBRARY}` at the repository's top first"
         );
         exit(1);
     }
