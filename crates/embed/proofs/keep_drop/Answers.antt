@@ -1,0 +1,47 @@
+-- `keep_drop` meets its contract, reason by reason.
+use lib.ListN.{length-set}
+use native.Mathlib.Omega.{arith}
+use Rattle.embed.proofs.Keeping.{drop_stored}
+use Rattle.frame.specs.declared.finding.Reason.TheVariants.{NoHeader, WrongType, TooLong, WrongCheck, WrongEnd}
+use Rattle.embed.specs.Kept.{count_for, place_for}
+use Rattle.embed.proofs.keep_drop.Goals as goal
+
+pub bounds-state-3 : goal.bounds-state-3
+bounds-state-3 c = simp length-set (omega (arith, c.requires))
+
+pub bounds-state-4 : goal.bounds-state-4
+bounds-state-4 c = simp length-set (omega (arith, c.requires))
+
+pub bounds-state-5 : goal.bounds-state-5
+bounds-state-5 c = simp length-set (omega (arith, c.requires))
+
+pub bounds-state-6 : goal.bounds-state-6
+bounds-state-6 c = simp length-set (omega (arith, c.requires))
+
+pub bounds-state-7 : goal.bounds-state-7
+bounds-state-7 c = simp length-set (omega (arith, c.requires))
+
+pub returns-in-NoHeader : goal.returns-in-NoHeader
+unfolding count_for place_for
+returns-in-NoHeader c =
+    drop_stored c.args.state.now c.args.reader _ NoHeader _ _ c.reason_number.ensures c.in-NoHeader.is
+
+pub returns-in-WrongType : goal.returns-in-WrongType
+unfolding count_for place_for
+returns-in-WrongType c =
+    drop_stored c.args.state.now c.args.reader _ WrongType _ _ c.reason_number.ensures c.in-WrongType.is
+
+pub returns-in-TooLong : goal.returns-in-TooLong
+unfolding count_for place_for
+returns-in-TooLong c =
+    drop_stored c.args.state.now c.args.reader _ TooLong _ _ c.reason_number.ensures c.in-TooLong.is
+
+pub returns-in-WrongCheck : goal.returns-in-WrongCheck
+unfolding count_for place_for
+returns-in-WrongCheck c =
+    drop_stored c.args.state.now c.args.reader _ WrongCheck _ _ c.reason_number.ensures c.in-WrongCheck.is
+
+pub returns-in-WrongEnd : goal.returns-in-WrongEnd
+unfolding count_for place_for
+returns-in-WrongEnd c =
+    drop_stored c.args.state.now c.args.reader _ WrongEnd _ _ c.reason_number.ensures c.in-WrongEnd.is
