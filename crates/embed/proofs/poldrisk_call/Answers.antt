@@ -17,7 +17,8 @@ returns-then-not-are_places c =
 
 pub returns-then-records-ne0 : goal.returns-then-records-ne0
 returns-then-records-ne0 c =
-    no_records _ _ _ _ _ _ _ _ _ c.if-state-ne13.false c.reader_of.ensures c.in-Fit.is (not_fails c.if-not-are_places.false-raw c.are_places.ensures) c.if-records-ne0.true
+    no_records _ _ _ _ _ _ _ _ _ c.if-state-ne13.false c.reader_of.ensures c.in-Fit.is (not_fails c.if-not-are_places.false-raw c.are_places.ensures)
+    c.if-records-ne0.true
 
 pub call_on-requires : goal.call_on-requires
 call_on-requires c =
@@ -29,5 +30,5 @@ call_on-requires c =
 
 pub returns : goal.returns
 returns c =
-    carried_out_lem _ _ _ _ _ _ _ _ _ c.if-state-ne13.false c.reader_of.ensures c.in-Fit.is (not_fails c.if-not-are_places.false-raw c.are_places.ensures) c.if-records-ne0.false _
-    c.call_on.ensures
+    carried_out_lem _ _ _ _ _ _ _ _ _ c.if-state-ne13.false c.reader_of.ensures c.in-Fit.is (not_fails c.if-not-are_places.false-raw c.are_places.ensures)
+    c.if-records-ne0.false _ c.call_on.ensures
