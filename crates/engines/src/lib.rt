@@ -1,5 +1,4 @@
-// The CRC engines for C and Rust, each as a function of its own, so that a benchmark can time them side by side; the bench itself is in `embed`. A slice
-// passes as a pointer and a length, an array as a pointer.
+// The CRC engines, each as a function of its own, so that a benchmark can time them side by side; the bench itself is in `embed`. `engines_c` exports them.
 #![tactic(auto)]
 
 ghost use Rattle.std.specs.Prelude.{◌≡◌, ◌-◌};
@@ -10,40 +9,35 @@ ghost use Rattle.crc.specs.declared.Direction.TheVariants.{HighFirst, LowFirst};
 use crc::{Direction, high_first, lookup, low_first, shifts};
 
 // The tag's CRC bit by bit.
-#[unsafe(no_mangle)]
-pub extern "C" fn poldrisk_tag_crc_plain(bytes: &[u8]) -> u16
+pub fn poldrisk_tag_crc_plain(bytes: &[u8]) -> u16
     ensures { result ≡ tag_crc bytes.now }
 {
     crc::tag_crc(bytes)
 }
 
 // The tag's CRC two bytes at a time by shifts, as the bench works it.
-#[unsafe(no_mangle)]
-pub extern "C" fn poldrisk_tag_crc_shifts(bytes: &[u8]) -> u16
+pub fn poldrisk_tag_crc_shifts(bytes: &[u8]) -> u16
     ensures { result ≡ tag_crc bytes.now }
 {
     shifts::tag_crc(bytes)
 }
 
 // The tag's CRC from tables that are copied for this call.
-#[unsafe(no_mangle)]
-pub extern "C" fn poldrisk_tag_crc_bound(bytes: &[u8]) -> u16
+pub fn poldrisk_tag_crc_bound(bytes: &[u8]) -> u16
     ensures { result ≡ tag_crc bytes.now }
 {
     lookup::tag_crc(bytes)
 }
 
 // The CRC of the reader of source document 003, likewise.
-#[unsafe(no_mangle)]
-pub extern "C" fn poldrisk_reader_crc_bound(bytes: &[u8]) -> u16
+pub fn poldrisk_reader_crc_bound(bytes: &[u8]) -> u16
     ensures { result ≡ reader_crc bytes.now }
 {
     lookup::reader_crc(bytes)
 }
 
 // The tables of the tag's polynomial, to be lent to the function below them.
-#[unsafe(no_mangle)]
-pub extern "C" fn poldrisk_tag_tables(near: &mut [u16; 256], far: &mut [u16; 256])
+pub fn poldrisk_tag_tables(near: &mut [u16; 256], far: &mut [u16; 256])
     ensures { (near.new ≡ near_table HighFirst) × (far.new ≡ far_table HighFirst) }
 {
     *near = high_first::near();
@@ -51,24 +45,21 @@ pub extern "C" fn poldrisk_tag_tables(near: &mut [u16; 256], far: &mut [u16; 256
 }
 
 // With those tables it is the tag's CRC.
-#[unsafe(no_mangle)]
-pub extern "C" fn poldrisk_tag_crc_lent(near: &[u16; 256], far: &[u16; 256], bytes: &[u8]) -> u16
+pub fn poldrisk_tag_crc_lent(near: &[u16; 256], far: &[u16; 256], bytes: &[u8]) -> u16
     ensures { result ≡ 0xFFFF - table_crc HighFirst near.now far.now 0xFFFF bytes.now }
 {
     0xffff - lookup::looked_up(Direction::HighFirst, near, far, 0xffff, bytes)
 }
 
 // The tables of the reader's polynomial, and what is looked up in them.
-#[unsafe(no_mangle)]
-pub extern "C" fn poldrisk_reader_tables(near: &mut [u16; 256], far: &mut [u16; 256])
+pub fn poldrisk_reader_tables(near: &mut [u16; 256], far: &mut [u16; 256])
     ensures { (near.new ≡ near_table LowFirst) × (far.new ≡ far_table LowFirst) }
 {
     *near = low_first::near();
     *far = low_first::far();
 }
 
-#[unsafe(no_mangle)]
-pub extern "C" fn poldrisk_reader_crc_lent(near: &[u16; 256], far: &[u16; 256], bytes: &[u8]) -> u16
+pub fn poldrisk_reader_crc_lent(near: &[u16; 256], far: &[u16; 256], bytes: &[u8]) -> u16
     ensures { result ≡ table_crc LowFirst near.now far.now 0xFFFF bytes.now }
 {
     lookup::looked_up(Direction::LowFirst, near, far, 0xffff, bytes)
