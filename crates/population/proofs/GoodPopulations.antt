@@ -16,7 +16,7 @@ use Rattle.population.proofs.Executes.{inside_there}
 use Rattle.population.proofs.Images.{length_replaced, image_same, image_other}
 use Rattle.population.proofs.Overlaps.{apart_sym}
 use Rattle.population.specs.Executing.{replaced}
-use Rattle.population.specs.Places.{place_at, inside, image_at, apart, ApartFrom, apart_below, good_at, good_population}
+use Rattle.population.specs.Places.{place_at, inside, image_at, apart, apart_from, apart_below, good_at, good_population}
 use Rattle.population.specs.declared.places.Place.{Place}
 
 pub record PopulationFacts (memory : List ℕ) (tags : ℕ) (places : List Place) : Type 0 where
@@ -41,8 +41,8 @@ module _ (memory : List ℕ) (tags : ℕ) (places : List Place) (g : good_popula
   rest_each i h = and_right (inside memory (place_at places i)) _ (at_each i h)
 
   apart_lower : (i j : ℕ) → i < tags → j < i → apart (place_at places i) (place_at places j) ≡ true
-  unfolding apart_below ApartFrom
-  apart_lower i j h l = below_each (ApartFrom places i) i (and_left (apart_below places i) _ (rest_each i h)) j l
+  unfolding apart_below apart_from
+  apart_lower i j h l = below_each (apart_from places i) i (and_left (apart_below places i) _ (rest_each i h)) j l
 
   pub population_facts : PopulationFacts memory tags places
   unfolding good_population
@@ -60,13 +60,13 @@ module _ (memory : List ℕ) (tags : ℕ) (places : List Place) (g : good_popula
 -- ---- and the facts suffice
 
 pub population_holds : (memory : List ℕ) (tags : ℕ) (places : List Place) → PopulationFacts memory tags places → good_population memory tags places ≡ true
-unfolding good_population good_at apart_below ApartFrom
+unfolding good_population good_at apart_below apart_from
 population_holds memory tags places g =
     and_both (leb tags 16) _ (le-leb tags 16 g.few)
     (below_all (good_at memory places) tags
     (λ i l. and_both (inside memory (place_at places i)) _ (g.within i l)
     (and_both (apart_below places i) _
-    (below_all (ApartFrom places i) i (λ j m. g.apart_all i j l (omega arith) (λ e. omega arith)))
+    (below_all (apart_from places i) i (λ j m. g.apart_all i j l (omega arith) (λ e. omega arith)))
     (g.images i l))))
 
 -- ---- another image of the same size

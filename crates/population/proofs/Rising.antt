@@ -9,7 +9,7 @@ use native.Mathlib.Omega.{arith}
 use Rattle.frame.proofs.Tests.{or_second}
 use Rattle.population.proofs.Below.{below_all, below_each, below_more}
 use Rattle.population.specs.Below.{all_below}
-use Rattle.population.specs.Places.{place_at, apart, ApartFrom, apart_below}
+use Rattle.population.specs.Places.{place_at, apart, apart_from, apart_below}
 use Rattle.population.specs.declared.places.Place.{Place}
 
 -- where place j ends; and that it ends by `limit`
@@ -30,8 +30,8 @@ module _ (places : List Place) (i limit : ℕ) (below : all_below (ends_by place
   ends j l = leb-true _ _ (below_each (ends_by places limit) i below j l)
 
   pub rising_apart : apart_below places i ≡ true
-  unfolding apart_below ApartFrom
-  rising_apart = below_all (ApartFrom places i) i (λ j l. apart_behind (place_at places i) (place_at places j) (omega (arith, ends j l)))
+  unfolding apart_below apart_from
+  rising_apart = below_all (apart_from places i) i (λ j l. apart_behind (place_at places i) (place_at places j) (omega (arith, ends j l)))
 
   pub ends_more : all_below (ends_by places (end_at places i)) (i + 1) ≡ true
   unfolding ends_by

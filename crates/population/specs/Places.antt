@@ -25,12 +25,12 @@ image_at memory p = part memory p.from p.size
 unfoldable pub apart : Place → Place → Bool
 apart p q = leb (p.from + p.size) q.from || leb (q.from + q.size) p.from
 
-unfoldable pub ApartFrom : List Place → ℕ → ℕ → Bool
-ApartFrom places i j = apart (place_at places i) (place_at places j)
+unfoldable pub apart_from : List Place → ℕ → ℕ → Bool
+apart_from places i j = apart (place_at places i) (place_at places j)
 
 -- place i overlaps none before it. Of all tags, these are all pairs.
 unfoldable pub apart_below : List Place → ℕ → Bool
-apart_below places i = all_below (ApartFrom places i) i
+apart_below places i = all_below (apart_from places i) i
 
 -- an image that is there and good
 unfoldable pub good_alone : List ℕ → Place → Bool
