@@ -13,7 +13,7 @@ use Rattle.frame.specs.declared.finding.Reason.{Reason}
 use Rattle.reader.specs.Tallies.{fresh_tally, with_dropped}
 use Rattle.rows.specs.declared.items.Item.{Item}
 use Rattle.sheet.proofs.Calling.{least, HasByte, called}
-use Rattle.sheet.proofs.Itemising.{Joined, joined}
+use Rattle.sheet.proofs.Growing.{Joined, joined}
 use Rattle.sheet.specs.Itemised.{advanced, pending, closed_by, itemised}
 use Rattle.sheet.specs.Items.{item_of, items_of, failing, joins, grown, one_more, items_after, closes}
 use Rattle.sheet.specs.Sheet.{Standing, items_by, teller}

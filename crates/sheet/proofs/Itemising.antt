@@ -1,14 +1,13 @@
 -- The items of a run stand for its failures, each once.
-use Prim.Native.Nat.{ℕ, zero, suc, ◌+◌, ◌-◌, ◌≤◌}
-use borrow.Author.Tests.{eqb-true, eq-eqb, ne_eqb, ltb-true}
-use lib.Dec.{eqb, ltb}
-use mathlib.Core.Bool.{true, ◌&&◌}
+use Prim.Native.Nat.{ℕ, zero, suc, ◌+◌, ◌-◌}
+use borrow.Author.Tests.{eqb-true, eq-eqb}
+use lib.Dec.{eqb}
 use mathlib.Core.List.{List, [], ◌∷◌, ◌++◌, append_assoc, append-nil}
 use mathlib.Core.Path.{◌≡◌, refl, ap, sym, ◌∙◌}
 use native.Mathlib.Omega.{arith}
 use Rattle.machine.specs.Machine.{State, call, Step, step}
-use Rattle.frame.proofs.Picks.{by_test, pick_true, pick_false}
-use Rattle.frame.proofs.Tests.{either, and_left, and_right}
+use Rattle.frame.proofs.Picks.{pick_true, pick_false}
+use Rattle.frame.proofs.Tests.{either}
 use Rattle.frame.specs.Bytes.{pick, byte}
 use Rattle.frame.specs.declared.finding.Reason.{Reason}
 use Rattle.reader.specs.Outcomes.{number_of}
@@ -17,6 +16,7 @@ use Rattle.reader.specs.declared.outcome.Outcome.{Outcome}
 use Rattle.reader.specs.declared.outcome.Outcome.TheVariants.{Answered, AtEnd, Incomplete, Dropped, PastEnd, BadImage, ShortOutput, FullTally, FullList}
 use Rattle.reader.specs.declared.tally.Tally.{Tally}
 use Rattle.rows.specs.declared.items.Item.{Item}
+use Rattle.sheet.proofs.Growing.{Formed, more_than_none, some_pending, all_one, Joined, joined, grown_item}
 use Rattle.sheet.specs.Claims.{Fault, fault, fault_in, faults, dropped_from, faults_of, all_faults, EveryFailureOnce}
 use Rattle.sheet.specs.Itemised.{advanced, pending, closed_by, itemised}
 use Rattle.sheet.specs.Items.{item_of, items_of, failing, joins, grown, one_more, items_after, closes}
@@ -29,14 +29,6 @@ pub all_join : (a b : List Item) → all_faults (a ++ b) ≡ all_faults a ++ all
 unfolding all_faults
 all_join [] b = refl
 all_join (item ∷ a) b = ap (λ (l : List Fault). faults_of item ++ l) (all_join a b) ∙ sym (append_assoc (faults_of item) (all_faults a) (all_faults b))
-
--- one byte more, at the end
-dropped_more : (place n : ℕ) → dropped_from place (suc n) ≡ dropped_from place n ++ (fault (place + n) 0 ∷ [])
-unfolding dropped_from
-dropped_more place zero = ap (λ (k : ℕ). fault k 0 ∷ []) (omega arith)
-dropped_more place (suc n) =
-    ap (λ (l : List Fault). fault place 0 ∷ l)
-    (dropped_more (suc place) n ∙ ap (λ (k : ℕ). dropped_from (suc place) n ++ (fault k 0 ∷ [])) (omega arith))
 
 -- what a failing call adds
 unfoldable fault_for : ℕ → Failing → List Fault
@@ -59,23 +51,6 @@ fault_is s x FullList e = simp (e, pick_false)
 
 -- ---- one call
 
--- the last item, where there is one, ends no earlier than it begins
-abbrev Formed : Items → Type 0
-Formed items = (items.count ≡ 0 → ⊥) → items.last.first ≤ items.last.last
-
-pub more_than_none : (n : ℕ) → one_more n ≡ 0 → ⊥
-unfolding one_more
-more_than_none n =
-    by_test (λ (m : ℕ). m ≡ 0 → ⊥) (eqb n 18446744073709551615) (λ most e. omega (arith, eqb-true n 18446744073709551615 most)) (λ less e. omega arith)
-
-pub some_pending : (items : Items) → (items.count ≡ 0 → ⊥) → pending items ≡ items.last ∷ []
-unfolding pending
-some_pending items some = rw (ne_eqb items.count 0 some, pick_false)
-
-all_one : (item : Item) → all_faults (item ∷ []) ≡ faults_of item
-unfolding all_faults
-all_one item = append-nil (faults_of item)
-
 -- an item of one call
 faults_one : (cursor e : ℕ) (t : Tally) → faults_of (item_of cursor cursor e t) ≡ fault cursor e ∷ []
 unfolding faults_of dropped_from
@@ -88,44 +63,6 @@ new_item n cursor e t =
     ap all_faults (some_pending (items_of (one_more n) (item_of cursor cursor e t)) (more_than_none n))
     ∙ all_one (item_of cursor cursor e t)
     ∙ faults_one cursor e t
-
-faults_drops : (item : Item) → item.error ≡ 0 → faults_of item ≡ dropped_from item.first (item.last + 1 - item.first)
-unfolding faults_of
-faults_drops item none = rw (eq-eqb item.error 0 none, pick_true)
-
-pub record Joined (items : Items) (cursor : ℕ) : Type 0 where
-  pub some : items.count ≡ 0 → ⊥
-  pub drops : items.last.error ≡ 0
-  pub next : items.last.last + 1 ≡ cursor
-
-pub joined : (items : Items) (cursor : ℕ) → joins items cursor ≡ true → Joined items cursor
-unfolding joins
-joined items cursor h =
-    let rest = and_right (ltb 0 items.count) (eqb items.last.error 0 && eqb (items.last.last + 1) cursor) h in
-    let first = ltb-true 0 items.count (and_left (ltb 0 items.count) (eqb items.last.error 0 && eqb (items.last.last + 1) cursor) h) in
-    record {
-      some = λ none. omega arith;
-      drops = eqb-true items.last.error 0 (and_left (eqb items.last.error 0) (eqb (items.last.last + 1) cursor) rest);
-      next = eqb-true (items.last.last + 1) cursor (and_right (eqb items.last.error 0) (eqb (items.last.last + 1) cursor) rest);
-    }
-
-grown_item : (items : Items) (cursor : ℕ) (r : Reason) → Formed items → Joined items cursor
-    → all_faults (pending (grown items cursor r)) ≡ all_faults (pending items) ++ (fault cursor 0 ∷ [])
-unfolding grown
-grown_item items cursor r formed j =
-    let first : ℕ = items.last.first in
-    let n : ℕ = items.last.last + 1 - first in
-    let well = formed j.some in
-    let one : cursor + 1 - first ≡ suc n = omega (arith, j.next) in
-    let end : first + n ≡ cursor = omega (arith, j.next) in
-    let item : Item = item_of first cursor 0 (with_dropped r items.last.drops) in
-    ap all_faults (some_pending (items_of items.count item) j.some)
-    ∙ all_one item
-    ∙ faults_drops item refl
-    ∙ ap (dropped_from first) one
-    ∙ dropped_more first n
-    ∙ ap (λ (k : ℕ). dropped_from first n ++ (fault k 0 ∷ [])) end
-    ∙ ap (λ (l : List Fault). l ++ (fault cursor 0 ∷ [])) (sym (ap all_faults (some_pending items j.some) ∙ all_one items.last ∙ faults_drops items.last j.drops))
 
 grown_formed : (items : Items) (cursor : ℕ) (r : Reason) → Formed items → Joined items cursor → Formed (grown items cursor r)
 unfolding grown

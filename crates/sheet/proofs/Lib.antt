@@ -3,6 +3,7 @@ pub mod Balancing
 pub mod Calling
 pub mod Claimed
 pub mod Computed
+pub mod Growing
 pub mod ItemByItem
 pub mod Itemising
 pub mod Joining

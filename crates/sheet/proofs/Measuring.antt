@@ -19,7 +19,8 @@ use Rattle.reader.specs.declared.tally.Tally.{Tally}
 use Rattle.rows.specs.Rows.{dropped_in}
 use Rattle.rows.specs.declared.items.Item.{Item}
 use Rattle.sheet.proofs.Calling.{adds, least, called}
-use Rattle.sheet.proofs.Itemising.{some_pending, none_pending, Joined, joined}
+use Rattle.sheet.proofs.Growing.{some_pending, Joined, joined}
+use Rattle.sheet.proofs.Itemising.{none_pending}
 use Rattle.sheet.proofs.Summing.{Below, Counted, sums, none_shown}
 use Rattle.sheet.specs.Claims.{reason_count, OneAnswer, DroppedBytes, EachOne, BytesOfDrops}
 use Rattle.sheet.specs.Itemised.{advanced, pending, closed_by, itemised}

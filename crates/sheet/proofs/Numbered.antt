@@ -20,7 +20,8 @@ use Rattle.reader.specs.declared.outcome.Outcome.TheVariants.{Answered, AtEnd, I
 use Rattle.reader.specs.declared.state.Reader.{Reader}
 use Rattle.rows.specs.Rows.{item_rows}
 use Rattle.rows.specs.declared.items.Item.{Item}
-use Rattle.sheet.proofs.Itemising.{more_than_none, some_pending, none_pending, joined}
+use Rattle.sheet.proofs.Growing.{more_than_none, some_pending, joined}
+use Rattle.sheet.proofs.Itemising.{none_pending}
 use Rattle.sheet.proofs.Tellings.{falls}
 use Rattle.sheet.specs.Claims.{GoesOn, RowForEachItem, ItemsCounted}
 use Rattle.sheet.specs.Itemised.{advanced, pending, closed_by, itemised, rows_from}

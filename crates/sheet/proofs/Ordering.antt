@@ -8,7 +8,8 @@ use Rattle.frame.proofs.Tests.{either}
 use Rattle.frame.specs.declared.finding.Reason.{Reason}
 use Rattle.rows.specs.declared.items.Item.{Item}
 use Rattle.sheet.proofs.ItemByItem.{Cursor, Begun, Told, ByCalls, good_items}
-use Rattle.sheet.proofs.Itemising.{more_than_none, some_pending, none_pending, Joined}
+use Rattle.sheet.proofs.Growing.{more_than_none, some_pending, Joined}
+use Rattle.sheet.proofs.Itemising.{none_pending}
 use Rattle.sheet.specs.Claims.{InOrder, Rising}
 use Rattle.sheet.specs.Itemised.{pending}
 use Rattle.sheet.specs.Items.{items_of, grown, one_more}

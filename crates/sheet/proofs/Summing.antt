@@ -17,7 +17,8 @@ use Rattle.reader.specs.declared.tally.Tally.{Tally}
 use Rattle.report.specs.Report.{fresh}
 use Rattle.rows.specs.declared.items.Item.{Item}
 use Rattle.sheet.proofs.Calling.{adds, called}
-use Rattle.sheet.proofs.Itemising.{more_than_none, some_pending, none_pending, joined}
+use Rattle.sheet.proofs.Growing.{more_than_none, some_pending, joined}
+use Rattle.sheet.proofs.Itemising.{none_pending}
 use Rattle.sheet.specs.Claims.{reason_count, summed, ReasonsSummed}
 use Rattle.sheet.specs.Itemised.{advanced, pending, closed_by, itemised}
 use Rattle.sheet.specs.Items.{item_of, items_of, failing, joins, grown, one_more, items_after, closes}

@@ -12,7 +12,8 @@ use Rattle.frame.specs.declared.finding.Reason.{Reason}
 use Rattle.reader.specs.Tallies.{fresh_tally}
 use Rattle.rows.specs.declared.items.Item.{Item}
 use Rattle.sheet.proofs.ItemByItem.{Begun, Told, ByCalls, good_items}
-use Rattle.sheet.proofs.Itemising.{more_than_none, some_pending, none_pending, Joined}
+use Rattle.sheet.proofs.Growing.{more_than_none, some_pending, Joined}
+use Rattle.sheet.proofs.Itemising.{none_pending}
 use Rattle.sheet.specs.Claims.{Apart, ApartFrom, AllApart, DropsTogether}
 use Rattle.sheet.specs.Itemised.{pending, itemised}
 use Rattle.sheet.specs.Items.{item_of, items_of, joins, grown, one_more}
