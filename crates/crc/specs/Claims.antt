@@ -7,7 +7,7 @@ use Rattle.crc.specs.Tables.{table_of, near_table, far_table, table_crc}
 use Rattle.crc.specs.declared.Direction.{Direction}
 use Rattle.crc.specs.declared.Direction.TheVariants.{HighFirst, LowFirst}
 
--- A bit. Source document 003: "if(ui_crc_value & 0x0001) ui_crc_value = (ui_crc_value >> 1) ^ POLYNOMIAL", else "(ui_crc_value >> 1)". The tag's is the same with
+-- A bit. Source document 003: "if(uiCrcValue & 0x0001) uiCrcValue = (uiCrcValue >> 1) ^ POLYNOMIAL", else "(uiCrcValue >> 1)". The tag's is the same with
 -- the ends of the register changed round.
 pub record BitRules (polynomial register : ℕ) : Type 0 where
   pub low_one : register % 2 ≡ 1 → bit_step LowFirst polynomial register ≡ bit_xor (register / 2) polynomial
@@ -21,7 +21,7 @@ eight direction polynomial register =
     let step : ℕ → ℕ = bit_step direction polynomial in
     step (step (step (step (step (step (step (step register)))))))
 
--- A byte. Source document 003: "ui_crc_value = ui_crc_value ^ *(puc_y + uc_i)" and then eight bits; the tag's enters at the other end.
+-- A byte. Source document 003: "uiCrcValue = uiCrcValue ^ *(pucY + ucI)" and then eight bits; the tag's enters at the other end.
 pub record ByteRules (polynomial register b : ℕ) (bytes : List ℕ) : Type 0 where
   pub none : (direction : Direction) → crc direction polynomial register [] ≡ register
   pub low_byte : crc LowFirst polynomial register (b ∷ bytes) ≡ crc LowFirst polynomial (eight LowFirst polynomial (bit_xor register b)) bytes

@@ -30,9 +30,9 @@ fn name_of(number: usize) -> [u8; 10]
 fn read_into(files: &impl Files, memory: &mut [u8], sizes: &mut [u64]) -> Tags
     requires memory_len { length memory.old ≡ 65536 }
     requires sizes_len { length sizes.old ≡ 17 }
-    ensures prefix_len { IsPrefixLen result.count sizes.new }
-    ensures prefix_len_2 { IsPrefixLen result.length memory.new }
-    ensures length_value { result.length ≡ sum sizes.new }
+    ensures count_in_sizes { IsPrefixLen result.count sizes.new }
+    ensures length_in_memory { IsPrefixLen result.length memory.new }
+    ensures length_is_sum { result.length ≡ sum sizes.new }
 {
     let mut count = 0;
     let mut at = 0;
@@ -59,9 +59,9 @@ fn read_into(files: &impl Files, memory: &mut [u8], sizes: &mut [u64]) -> Tags
 // "The number of tags is one more than the highest number from 00 to 16 whose file can be opened": a seventeenth is looked for, so that it is seen that they
 // are too many. A file below that can't be opened counts as empty.
 pub fn read_tags(files: &impl Files, memory: &mut [u8; 65536], sizes: &mut [u64; 17]) -> Tags
-    ensures prefix_len { IsPrefixLen result.count sizes.new }
-    ensures prefix_len_2 { IsPrefixLen result.length memory.new }
-    ensures length_value { result.length ≡ sum sizes.new }
+    ensures count_in_sizes { IsPrefixLen result.count sizes.new }
+    ensures length_in_memory { IsPrefixLen result.length memory.new }
+    ensures length_is_sum { result.length ≡ sum sizes.new }
 {
     read_into(files, memory, sizes)
 }

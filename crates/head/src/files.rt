@@ -81,7 +81,7 @@ fn put_tag(buffer: &mut [u8], at: usize, numbered: bool, i: usize, size: u64) ->
 }
 
 pub(crate) fn put_tags(buffer: &mut [u8], at: usize, numbered: bool, sizes: &[u64]) -> usize
-    requires sizes_in_bounds { at + 27 * length sizes.now ≤ length buffer.old }
+    requires room { at + 27 * length sizes.now ≤ length buffer.old }
     requires sizes_len_bound { length sizes.now ≤ 16 }
     ensures put { Put (tag_lines numbered 0 sizes.now) at buffer.old buffer.new result }
     ensures upper_bound { result ≤ at + 27 * length sizes.now }

@@ -26,7 +26,7 @@ view image =
       pc = number image (number image 10 + 2);
     }
 
--- Byte 23: "RSSI, signed, d_bm".
+-- Byte 23: "RSSI, signed, dBm".
 unfoldable pub rssi : List ℕ → ℕ
 rssi image = byte image 23
 

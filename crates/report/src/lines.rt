@@ -39,7 +39,7 @@ fn behind(frame: &[u8], next: usize) -> u8
 
 pub(crate) fn put_frame(buffer: &mut [u8], at: usize, frame: &[u8]) -> usize
     requires longest_line_in_bounds { at + longest_line ≤ length buffer.old }
-    requires frame_nonzero { (0 < length frame.now) × (length frame.now ≤ 136) }
+    requires frame_length { (0 < length frame.now) × (length frame.now ≤ 136) }
     ensures { Line (frame_line frame.now) at buffer.old buffer.new result }
 {
     let mut i = 0;

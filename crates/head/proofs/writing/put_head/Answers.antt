@@ -17,7 +17,7 @@ pub put_tags-columns-requires : goal.put_tags-columns-requires
 unfolding title_line
 put_tags-columns-requires c =
     record {
-      sizes_in_bounds = tags_room _ _ _ c.requires.in_bounds c.put_text-file.ensures c.args.input.now _ _ (c.put_input-taken.ensures.put, c.put_input-taken.ensures.upper_bound) _ _ _ _ _
+      room = tags_room _ _ _ c.requires.in_bounds c.put_text-file.ensures c.args.input.now _ _ (c.put_input-taken.ensures.put, c.put_input-taken.ensures.upper_bound) _ _ _ _ _
           c.commands_in.ensures (c.put_commands-last.ensures.put, c.put_commands-last.ensures.upper_bound) c.put_text-tags.ensures c.args.sizes.now c.requires.sizes_len_bound;
       sizes_len_bound = c.requires.sizes_len_bound;
     }

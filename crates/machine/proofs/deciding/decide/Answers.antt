@@ -2,18 +2,19 @@
 use Rattle.machine.proofs.Jobs.{selection_judged, lowest_whole, job_whole, too_many_bad, past, bad_selection, bad_population, short, filled, hands_out, hands_none}
 use Rattle.machine.proofs.Listing.{room_job, refused_first, full_list}
 use mathlib.Core.Path.{refl}
-use Rattle.frame.proofs.Tests.{holds, fails, not_holds, not_fails}
+use native.Mathlib.Omega.{arith}
+use Rattle.frame.proofs.Tests.{not_holds, not_fails}
 use Rattle.population.proofs.Selects.{lowest_none}
 use Rattle.reader.specs.Outcomes.{number_of}
 use Rattle.machine.proofs.deciding.decide.Goals as goal
 
 pub returns-then-input-cursor : goal.returns-then-input-cursor
 unfolding number_of
-returns-then-input-cursor c = refused_first _ _ _ refl (past _ _ c.if-input-cursor.true)
+returns-then-input-cursor c = refused_first _ _ _ refl (past _ _ (omega arith))
 
 pub returns-then-count-gt39 : goal.returns-then-count-gt39
 unfolding number_of
-returns-then-count-gt39 c = refused_first _ _ _ refl (bad_selection _ _ c.if-input-cursor.false (too_many_bad _ _ c.if-count-gt39.true))
+returns-then-count-gt39 c = refused_first _ _ _ refl (bad_selection _ _ (omega arith) (too_many_bad _ _ c.if-count-gt39.true))
 
 pub returns-then-not-is_good_selection : goal.returns-then-not-is_good_selection
 unfolding number_of
@@ -21,7 +22,7 @@ returns-then-not-is_good_selection c =
     let bytes = c.args.selection.now in
     let count = c.args.count in
     refused_first _ _ _ refl
-    (bad_selection _ _ c.if-input-cursor.false (not_holds c.if-not-is_good_selection.true-raw (selection_judged bytes count c.if-count-gt39.false _ c.is_good_selection.ensures)))
+    (bad_selection _ _ (omega arith) (not_holds c.if-not-is_good_selection.true-raw (selection_judged bytes count c.if-count-gt39.false _ c.is_good_selection.ensures)))
 
 pub returns-then-not-is_good_population : goal.returns-then-not-is_good_population
 unfolding number_of
@@ -29,7 +30,7 @@ returns-then-not-is_good_population c =
     let bytes = c.args.selection.now in
     let count = c.args.count in
     refused_first _ _ _ refl
-    (bad_population _ _ c.if-input-cursor.false (not_fails c.if-not-is_good_selection.false-raw (selection_judged bytes count c.if-count-gt39.false _ c.is_good_selection.ensures))
+    (bad_population _ _ (omega arith) (not_fails c.if-not-is_good_selection.false-raw (selection_judged bytes count c.if-count-gt39.false _ c.is_good_selection.ensures))
     (not_holds c.if-not-is_good_population.true-raw c.is_good_population.ensures))
 
 pub returns-then-output-lt136 : goal.returns-then-output-lt136
@@ -38,8 +39,8 @@ returns-then-output-lt136 c =
     let bytes = c.args.selection.now in
     let count = c.args.count in
     refused_first _ _ _ refl
-    (short _ _ c.if-input-cursor.false (not_fails c.if-not-is_good_selection.false-raw (selection_judged bytes count c.if-count-gt39.false _ c.is_good_selection.ensures))
-    (not_fails c.if-not-is_good_population.false-raw c.is_good_population.ensures) c.if-output-lt136.true)
+    (short _ _ (omega arith) (not_fails c.if-not-is_good_selection.false-raw (selection_judged bytes count c.if-count-gt39.false _ c.is_good_selection.ensures))
+    (not_fails c.if-not-is_good_population.false-raw c.is_good_population.ensures) (omega arith))
 
 pub returns-then-is_full : goal.returns-then-is_full
 unfolding number_of
@@ -47,23 +48,23 @@ returns-then-is_full c =
     let bytes = c.args.selection.now in
     let count = c.args.count in
     refused_first _ _ _ refl
-    (filled _ _ c.if-input-cursor.false (not_fails c.if-not-is_good_selection.false-raw (selection_judged bytes count c.if-count-gt39.false _ c.is_good_selection.ensures))
-    (not_fails c.if-not-is_good_population.false-raw c.is_good_population.ensures) c.if-output-lt136.false (holds c.if-is_full.true c.is_full.ensures))
+    (filled _ _ (omega arith) (not_fails c.if-not-is_good_selection.false-raw (selection_judged bytes count c.if-count-gt39.false _ c.is_good_selection.ensures))
+    (not_fails c.if-not-is_good_population.false-raw c.is_good_population.ensures) (omega arith) (cc))
 
 pub returns-then-full : goal.returns-then-full
 returns-then-full c =
     let bytes = c.args.selection.now in
     let count = c.args.count in
-    full_list _ _ c.if-input-cursor.false (not_fails c.if-not-is_good_selection.false-raw (selection_judged bytes count c.if-count-gt39.false _ c.is_good_selection.ensures))
-    (not_fails c.if-not-is_good_population.false-raw c.is_good_population.ensures) c.if-output-lt136.false (fails c.if-is_full.false c.is_full.ensures) _ c.if-full.true
+    full_list _ _ (omega arith) (not_fails c.if-not-is_good_selection.false-raw (selection_judged bytes count c.if-count-gt39.false _ c.is_good_selection.ensures))
+    (not_fails c.if-not-is_good_population.false-raw c.is_good_population.ensures) (omega arith) (cc) _ c.if-full.true
 
 pub returns-then-tags-next : goal.returns-then-tags-next
 returns-then-tags-next c =
     let bytes = c.args.selection.now in
     let count = c.args.count in
     room_job _ _ _ c.if-full.false
-    (hands_none _ _ c.if-input-cursor.false (not_fails c.if-not-is_good_selection.false-raw (selection_judged bytes count c.if-count-gt39.false _ c.is_good_selection.ensures))
-    (not_fails c.if-not-is_good_population.false-raw c.is_good_population.ensures) c.if-output-lt136.false (fails c.if-is_full.false c.is_full.ensures)
+    (hands_none _ _ (omega arith) (not_fails c.if-not-is_good_selection.false-raw (selection_judged bytes count c.if-count-gt39.false _ c.is_good_selection.ensures))
+    (not_fails c.if-not-is_good_population.false-raw c.is_good_population.ensures) (omega arith) (cc)
     _ (lowest_none _ _ _ _ _ c.if-tags-next.true) refl
     _ (job_whole bytes count c.if-count-gt39.false _ _ _ _ _ _ c.find_job.ensures))
 
@@ -72,8 +73,8 @@ returns-in-Tag c =
     let bytes = c.args.selection.now in
     let count = c.args.count in
     room_job _ _ _ c.if-full.false
-    (hands_out _ _ c.if-input-cursor.false (not_fails c.if-not-is_good_selection.false-raw (selection_judged bytes count c.if-count-gt39.false _ c.is_good_selection.ensures))
-    (not_fails c.if-not-is_good_population.false-raw c.is_good_population.ensures) c.if-output-lt136.false (fails c.if-is_full.false c.is_full.ensures)
+    (hands_out _ _ (omega arith) (not_fails c.if-not-is_good_selection.false-raw (selection_judged bytes count c.if-count-gt39.false _ c.is_good_selection.ensures))
+    (not_fails c.if-not-is_good_population.false-raw c.is_good_population.ensures) (omega arith) (cc)
     _ (lowest_whole bytes count c.if-count-gt39.false _ _ _ _ _ c.find_lowest-waiting.ensures) _ _ c.in-Tag.is)
 
 pub returns-in-NoTag : goal.returns-in-NoTag
@@ -81,7 +82,7 @@ returns-in-NoTag c =
     let bytes = c.args.selection.now in
     let count = c.args.count in
     room_job _ _ _ c.if-full.false
-    (hands_none _ _ c.if-input-cursor.false (not_fails c.if-not-is_good_selection.false-raw (selection_judged bytes count c.if-count-gt39.false _ c.is_good_selection.ensures))
-    (not_fails c.if-not-is_good_population.false-raw c.is_good_population.ensures) c.if-output-lt136.false (fails c.if-is_full.false c.is_full.ensures)
+    (hands_none _ _ (omega arith) (not_fails c.if-not-is_good_selection.false-raw (selection_judged bytes count c.if-count-gt39.false _ c.is_good_selection.ensures))
+    (not_fails c.if-not-is_good_population.false-raw c.is_good_population.ensures) (omega arith) (cc)
     _ (lowest_whole bytes count c.if-count-gt39.false _ _ _ _ _ c.find_lowest-waiting.ensures) c.in-NoTag.is
     _ (job_whole bytes count c.if-count-gt39.false _ _ _ _ _ _ c.find_job-in-NoTag.ensures))

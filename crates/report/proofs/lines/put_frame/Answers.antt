@@ -24,5 +24,5 @@ loop-i-preserved c =
 pub returns : goal.returns
 returns c =
     let l = c.loop-i in
-    let pre = c.requires.frame_nonzero in
+    let pre = c.requires.frame_length in
     frame_whole _ _ _ _ _ _ pre.0 pre.1 c.loop-i-test.false l.invariant.0 l.invariant.1.0 l.invariant.1.1.1

@@ -19,7 +19,7 @@ put_frame-requires c =
     let framed = c.requires.framed c.in-Answered.is in
     let all = length-take-le c.args.called.length c.args.output.now framed.there in record {
       longest_line_in_bounds = c.requires.room;
-      frame_nonzero = (omega (arith, all, framed.some), omega (arith, all, framed.at_most_136));
+      frame_length = (omega (arith, all, framed.some), omega (arith, all, framed.at_most_136));
     }
 
 pub returns-in-Answered : goal.returns-in-Answered
