@@ -2,63 +2,62 @@
 // was written from the sources: it is the published frames.
 #![tactic(auto)]
 
-use crc::{Direction, lookup};
+use crc::{Crc16, lookup};
+use std::fmt::{self, Write};
 
 mod frames;
 
 // The file descriptor of standard output.
 const STDOUT_FILENO: i32 = 1;
 
-fn digit(n: u8) -> u8 {
-    if n % 16 < 10 {
-        return n % 16 + b'0';
-    }
-    n % 16 - 10 + b'A'
-}
+// Standard output. What it does not take is no failure: the next piece is tried.
+#[derive(Clone, Copy)]
+struct Output;
 
-fn print_byte(b: u8, behind: u8) {
-    io::write_all(STDOUT_FILENO, &[digit(b / 16), digit(b % 16), behind]);
+impl Write for Output {
+    fn write_str(&mut self, text: &str) -> fmt::Result {
+        io::write_all(STDOUT_FILENO, text.as_bytes());
+        Ok(())
+    }
 }
 
 // The bytes, and then the CRC: its high byte first.
-fn print(engine: &[u8], bytes: &[u8], crc: u16) {
-    io::write_all(STDOUT_FILENO, engine);
-    let mut i = 0;
-    while i < bytes.len() {
-        print_byte(bytes[i], b' ');
-        i += 1;
+fn print_frame(engine: &str, bytes: &[u8], crc: u16) -> fmt::Result {
+    write!(Output, "{engine}")?;
+    for b in bytes {
+        write!(Output, "{b:02X} ")?;
     }
-    print_byte((crc / 256) as u8, b' ');
-    print_byte((crc % 256) as u8, b'\n');
+    let [high, low] = crc.to_be_bytes();
+    writeln!(Output, "{high:02X} {low:02X}")
 }
 
 // The CRC of the reader of source document 003.
-fn reader(heading: &[u8], bytes: &[u8]) {
-    io::write_all(STDOUT_FILENO, heading);
-    let plain = crc::crc_of(Direction::LowFirst, 0x8408, 0xffff, bytes);
-    print(b"bit by bit ", bytes, plain);
-    print(b"by tables  ", bytes, lookup::reader_crc(bytes));
+fn print_reader(heading: &str, bytes: &[u8]) -> fmt::Result {
+    writeln!(Output, "{heading}")?;
+    print_frame("bit by bit ", bytes, Crc16::READER.crc_of(0xffff, bytes))?;
+    print_frame("by tables  ", bytes, lookup::reader_crc(bytes))
 }
 
 // The CRC of a tag.
-fn tag(heading: &[u8], bytes: &[u8]) {
-    io::write_all(STDOUT_FILENO, heading);
-    print(b"bit by bit ", bytes, crc::tag_crc(bytes));
-    print(b"by tables  ", bytes, lookup::tag_crc(bytes));
+fn print_tag(heading: &str, bytes: &[u8]) -> fmt::Result {
+    writeln!(Output, "{heading}")?;
+    print_frame("bit by bit ", bytes, crc::tag_crc(bytes))?;
+    print_frame("by tables  ", bytes, lookup::tag_crc(bytes))
+}
+
+fn print_all() -> fmt::Result {
+    print_reader("003 CRC16 Calculation, MODULE_INT", &frames::MODULE_INT)?;
+    print_reader(
+        "003 INVENTORY_ISO_CONTINUE, Command frame",
+        &frames::INVENTORY,
+    )?;
+    print_reader("003 Inventory Response Example", &frames::INVENTORY_ANSWER)?;
+    print_tag(
+        "002 0x22 Single Inventory, Notification: PC, EPC, CRC",
+        &frames::PC_AND_EPC,
+    )
 }
 
 fn main() {
-    reader(b"003 CRC16 Calculation, MODULE_INT\n", &frames::MODULE_INT);
-    reader(
-        b"003 INVENTORY_ISO_CONTINUE, Command frame\n",
-        &frames::INVENTORY,
-    );
-    reader(
-        b"003 Inventory Response Example\n",
-        &frames::INVENTORY_ANSWER,
-    );
-    tag(
-        b"002 0x22 Single Inventory, Notification: PC, EPC, CRC\n",
-        &frames::PC_AND_EPC,
-    );
+    let _ = print_all();
 }

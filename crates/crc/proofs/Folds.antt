@@ -4,19 +4,23 @@ use Prim.Native.Nat.{ℕ, zero, suc, ◌+◌, ◌-◌, ◌*◌, ◌/◌, ◌%◌
 use borrow.Author.Tests.{leb-true, leb-false}
 use lib.Bits.{bit_xor, xor_shr, xor_mod, xor_block, xor_lt, xor_shifted}
 use lib.Dec.{leb}
-use lib.ListN.{length, drop, get_or}
+use lib.ListN.{length, take, drop, get_or}
 use lib.Pow.{pow_pos}
 use mathlib.Core.Bool.{Bool, true, false}
 use mathlib.Core.List.{List, [], ◌∷◌}
 use mathlib.Core.Path.{◌≡◌, refl, sym, ap, ap₂, ◌∙◌}
 use native.Mathlib.Nat.{add-zero, pow-suc}
 use native.Mathlib.Omega.{arith}
+use Rattle.std.proofs.lemmas.List.{get_or-take}
+use Rattle.std.specs.Int.{w32, w64, from_be_bytes}
+use Rattle.std.specs.Simd.{first_chunks}
+use Rattle.crc.proofs.Chunks.{chunk_byte}
 use Rattle.crc.proofs.Linear.{steps_small, steps_xor}
 use Rattle.crc.proofs.Steps.{two_bytes_next}
 use Rattle.crc.proofs.Tables.{Bytes, up, sixteen}
 use Rattle.crc.proofs.Xors.{xor_assoc, xor_exchange}
 use Rattle.crc.specs.Crc.{leaving, shifted, added, bit_step, bit_steps, entered, byte_step, crc}
-use Rattle.crc.specs.Shifts.{spread, four_in, steps, four_steps, eight_steps}
+use Rattle.crc.specs.Shifts.{spread, steps, four_steps, eight_steps}
 use Rattle.crc.specs.declared.Direction.TheVariants.{HighFirst}
 
 -- ---- what goes through exclusive or
@@ -259,20 +263,21 @@ fourth_is n x h l word upper lower e =
     (ap₂ (λ (a b : ℕ). bit_xor (steps (bit_xor (steps a) b)) (n % 65536)) (ap₂ (λ (a b : ℕ). bit_xor (steps a) b) one two) three
     ∙ ap (λ (b : ℕ). bit_xor (steps (bit_xor (steps (bit_xor (steps x) h)) (l / 65536))) b) four)
 
-pub long_folded : (register high low : ℕ) → register < 0x10000 → high < 4294967296 → low < 4294967296
-    → spread (long_sum (bit_xor (register * 281474976710656) (high * 4294967296 + low))) ≡ eight_steps register high low
-long_folded register high low word upper lower =
-    let x : ℕ = bit_xor register (high / 65536) in
-    let d : ℕ = high % 65536 * 4294967296 + low in
-    let x-small : x < 0x10000 = xor_lt 16 register (high / 65536) word (omega arith) in
+pub long_folded : (register eight : ℕ) → register < 0x10000 → eight < 2 ^ 64
+    → spread (long_sum (bit_xor (register * 281474976710656) eight)) ≡ eight_steps register (eight / 2 ^ 32) (eight % 2 ^ 32)
+long_folded register eight word small =
+    let first : ℕ = eight / 2 ^ 32 / 65536 in
+    let h : ℕ = eight / 2 ^ 32 % 65536 in
+    let l : ℕ = eight % 2 ^ 32 in
+    let d : ℕ = h * 4294967296 + l in
+    let x : ℕ = bit_xor register first in
+    let x-small : x < 0x10000 = xor_lt 16 register first word (omega arith) in
     let d_small : d < 281474976710656 = omega arith in
     let front : register * 281474976710656 ≡ register * 281474976710656 + 0 = omega arith in
-    let behind : high * 4294967296 + low ≡ high / 65536 * 281474976710656 + d = omega arith in
-    let n : ℕ = bit_xor (register * 281474976710656) (high * 4294967296 + low) in
-    let n-is : n ≡ x * 281474976710656 + d =
-    ap₂ bit_xor front behind ∙ xor_block 48 register (high / 65536) 0 d (omega arith) d_small
-    in
-    long_is n (omega (arith, n-is, x-small, d_small)) ∙ fourth_is n x (high % 65536) low x-small (omega arith) lower n-is
+    let behind : eight ≡ first * 281474976710656 + d = omega arith in
+    let n : ℕ = bit_xor (register * 281474976710656) eight in
+    let n-is : n ≡ x * 281474976710656 + d = ap₂ bit_xor front behind ∙ xor_block 48 register first 0 d (omega arith) d_small in
+    long_is n (omega (arith, n-is, x-small, d_small)) ∙ fourth_is n x h l x-small (omega arith) (omega arith) n-is
 
 -- ---- bytes enter together
 
@@ -288,8 +293,12 @@ entered_together register a b word first second =
     ∙ (sym (sixteen HighFirst 0x1021 (omega arith) (bit_xor met b))
     ∙ ap eight (steps_xor HighFirst 0x1021 (omega arith) 8 met b met-small (omega arith) ∙ ap (bit_xor (eight met)) moves))
 
+-- four bytes as one number, the first of them highest
+abbrev four_in : List ℕ → ℕ → ℕ
+four_in bytes i = (get_or bytes i 0 * 256 + get_or bytes (i + 1) 0) * 65536 + (get_or bytes (i + 2) 0 * 256 + get_or bytes (i + 3) 0)
+
 module _ (bytes : List ℕ) (are : Bytes bytes) where
-  pub four_small : (i : ℕ) → four_in bytes i < 4294967296
+  four_small : (i : ℕ) → four_in bytes i < 4294967296
   four_small i = omega (arith, are i, are (i + 1), are (i + 2), are (i + 3))
 
   entered_small : (register w : ℕ) → register < 0x10000 → w < 0x10000 → steps (bit_xor register w) < 0x10000
@@ -302,7 +311,7 @@ module _ (bytes : List ℕ) (are : Bytes bytes) where
       (ap (λ (v : ℕ). steps (bit_xor register v)) e ∙ entered_together register (get_or bytes i 0) (get_or bytes (i + 1) 0) word (are i) (are (i + 1)))
       ∙ two_bytes_next HighFirst 0x1021 bytes i register inside
 
-  pub four_next : (register i : ℕ) → register < 0x10000 → 4 ≤ length bytes - i
+  four_next : (register i : ℕ) → register < 0x10000 → 4 ≤ length bytes - i
       → crc HighFirst 0x1021 (four_steps register (four_in bytes i)) (drop (i + 4) bytes) ≡ crc HighFirst 0x1021 register (drop i bytes)
   four_next register i word inside =
       let four : ℕ = four_in bytes i in
@@ -319,15 +328,15 @@ module _ (bytes : List ℕ) (are : Bytes bytes) where
       ∙ two_next half-way (i + 2) (four % 65536) half-small (omega arith) second
       ∙ two_next register i (four / 65536) word (omega arith) first
 
-  pub four_kept : (register i : ℕ) → register < 0x10000 → four_steps register (four_in bytes i) < 0x10000
+  four_kept : (register i : ℕ) → register < 0x10000 → four_steps register (four_in bytes i) < 0x10000
   four_kept register i word =
       let four : ℕ = four_in bytes i in
       entered_small (steps (bit_xor register (four / 65536))) (four % 65536) (entered_small register (four / 65536) word (omega (arith, four_small i))) (omega arith)
 
-  pub eight_kept : (register i : ℕ) → register < 0x10000 → eight_steps register (four_in bytes i) (four_in bytes (i + 4)) < 0x10000
+  eight_kept : (register i : ℕ) → register < 0x10000 → eight_steps register (four_in bytes i) (four_in bytes (i + 4)) < 0x10000
   eight_kept register i word = four_kept (four_steps register (four_in bytes i)) (i + 4) (four_kept register i word)
 
-  pub eight_next : (register i : ℕ) → register < 0x10000 → 8 ≤ length bytes - i
+  eight_next : (register i : ℕ) → register < 0x10000 → 8 ≤ length bytes - i
       → crc HighFirst 0x1021 (eight_steps register (four_in bytes i) (four_in bytes (i + 4))) (drop (i + 8) bytes) ≡ crc HighFirst 0x1021 register (drop i bytes)
   eight_next register i word inside =
       let four : ℕ = four_in bytes i in
@@ -335,3 +344,50 @@ module _ (bytes : List ℕ) (are : Bytes bytes) where
       ap (λ (k : ℕ). crc HighFirst 0x1021 (eight_steps register four (four_in bytes (i + 4))) (drop k bytes)) ends
       ∙ four_next (four_steps register four) (i + 4) (four_kept register i word) (omega arith)
       ∙ four_next register i word (omega arith)
+
+  -- four bytes at the front, as the array that is split off
+  pub front_next : (register : ℕ) (four : List ℕ) → register < 0x10000 → 4 ≤ length bytes → four ≡ take 4 bytes
+      → crc HighFirst 0x1021 (four_steps register (from_be_bytes w32 four)) (drop 4 bytes) ≡ crc HighFirst 0x1021 register bytes
+  front_next register four word inside cut =
+      let at : (j : ℕ) → j < 4 → get_or four j 0 ≡ get_or bytes j 0 = λ j here. ap (λ (xs : List ℕ). get_or xs j 0) cut ∙ get_or-take 4 bytes j 0 here in
+      let number : from_be_bytes w32 four ≡ four_in bytes 0 =
+      omega (arith, at 0 (omega arith), at 1 (omega arith), at 2 (omega arith), at 3 (omega arith))
+      in
+      rw number (four_next register 0 word (omega arith))
+
+  -- eight bytes, as the array that they are cut into
+  module _ (eights : List (List ℕ)) (k : ℕ) (cut : eights ≡ first_chunks 8 (length bytes / 8) bytes) (inside : k < length bytes / 8) where
+    abbrev eight : ℕ
+    eight = from_be_bytes w64 (get_or eights k [])
+
+    halves : (eight / 2 ^ 32 ≡ four_in bytes (k * 8)) × (eight % 2 ^ 32 ≡ four_in bytes (k * 8 + 4))
+    halves =
+        let i : ℕ = k * 8 in
+        let at : (j place : ℕ) → j < 8 → i + j ≡ place → get_or (get_or eights k []) j 0 ≡ get_or bytes place 0 =
+        λ j place here is. chunk_byte bytes 8 (length bytes / 8) eights cut k j inside here ∙ ap (λ (m : ℕ). get_or bytes m 0) is
+        in
+        let high : four_in bytes i < 4294967296 = four_small i in
+        let low : four_in bytes (i + 4) < 4294967296 = four_small (i + 4) in
+        let whole : eight ≡ four_in bytes i * 4294967296 + four_in bytes (i + 4) =
+        omega (
+          arith,
+          at 0 i (omega arith) (omega arith),
+          at 1 (i + 1) (omega arith) (omega arith),
+          at 2 (i + 2) (omega arith) (omega arith),
+          at 3 (i + 3) (omega arith) (omega arith),
+          at 4 (i + 4) (omega arith) (omega arith),
+          at 5 (i + 4 + 1) (omega arith) (omega arith),
+          at 6 (i + 4 + 2) (omega arith) (omega arith),
+          at 7 (i + 4 + 3) (omega arith) (omega arith),
+        )
+        in
+        (omega (arith, whole, high, low), omega (arith, whole, high, low))
+
+    pub eights_kept : (register : ℕ) → register < 0x10000 → eight_steps register (eight / 2 ^ 32) (eight % 2 ^ 32) < 0x10000
+    eights_kept register word = rw (halves.0, halves.1) (eight_kept register (k * 8) word)
+
+    pub eights_next : (register : ℕ) → register < 0x10000
+        → crc HighFirst 0x1021 (eight_steps register (eight / 2 ^ 32) (eight % 2 ^ 32)) (drop ((k + 1) * 8) bytes) ≡ crc HighFirst 0x1021 register (drop (k * 8) bytes)
+    eights_next register word =
+        let next : (k + 1) * 8 ≡ k * 8 + 8 = omega arith in
+        rw (halves.0, halves.1, next) (eight_next register (k * 8) word (omega arith))

@@ -2,12 +2,15 @@
 use Prim.Native.Nat.{ℕ, suc, ◌+◌, ◌-◌, ◌*◌, ◌/◌, ◌%◌, ◌≤◌, ◌<◌}
 use borrow.Author.Tests.{le-leb, lt-leb, eq-eqb, ne_eqb}
 use lib.Bits.{bit_xor}
-use lib.ListN.{length, drop, get_or, drop_of_length-le}
+use lib.ListN.{length, drop, get_or}
 use lib.Seq.{drop-cons}
-use mathlib.Core.List.{List}
-use mathlib.Core.Path.{◌≡◌}
+use mathlib.Core.List.{List, [], ◌∷◌}
+use mathlib.Core.Path.{◌≡◌, refl}
+use native.Mathlib.Nat.{add-zero}
 use native.Mathlib.Numerals.{add-one, add-two}
 use native.Mathlib.Omega.{arith}
+use Rattle.crc.proofs.Chunks.{chunk_byte}
+use Rattle.std.specs.Simd.{first_chunks}
 use Rattle.crc.specs.Crc.{leaving, shifted, added, bit_step, bit_steps, byte_step, crc}
 use Rattle.crc.specs.declared.Direction.{Direction}
 use Rattle.crc.specs.declared.Direction.TheVariants.{HighFirst, LowFirst}
@@ -48,30 +51,40 @@ module _ (direction : Direction) (polynomial : ℕ) where
       let left : 8 - i ≡ 0 = omega arith in
       rw left
 
-  module _ (bytes : List ℕ) (i register : ℕ) where
-    -- of the bytes left, one is worked now
-    pub bytes_next : i < length bytes
-        → crc direction polynomial (byte_step direction polynomial register (get_or bytes i 0)) (drop (i + 1) bytes) ≡ crc direction polynomial register (drop i bytes)
-    unfolding crc
-    bytes_next inside = rw (add-one, drop-cons bytes i 0)
+  -- of the bytes left, one is worked now
+  pub bytes_next : (bytes : List ℕ) (i register : ℕ) → i < length bytes
+      → crc direction polynomial (byte_step direction polynomial register (get_or bytes i 0)) (drop (i + 1) bytes) ≡ crc direction polynomial register (drop i bytes)
+  unfolding crc
+  bytes_next bytes i register inside = rw (add-one, drop-cons bytes i 0)
 
-    pub bytes_none : length bytes ≤ i → crc direction polynomial register (drop i bytes) ≡ register
-    unfolding crc
-    bytes_none behind = rw (drop_of_length-le bytes behind)
+  -- two of them
+  pub two_bytes_next : (bytes : List ℕ) (i register : ℕ) → 2 ≤ length bytes - i
+      → crc direction polynomial (byte_step direction polynomial (byte_step direction polynomial register (get_or bytes i 0)) (get_or bytes (i + 1) 0)) (drop (i + 2) bytes)
+      ≡ crc direction polynomial register (drop i bytes)
+  unfolding crc
+  two_bytes_next bytes i register inside =
+      let next : suc i < length bytes = omega arith in
+      rw (add-one i, add-two i, drop-cons bytes i 0 (omega arith), drop-cons bytes (suc i) 0 next)
 
-    -- two of them
-    pub two_bytes_next : 2 ≤ length bytes - i
-        → crc direction polynomial (byte_step direction polynomial (byte_step direction polynomial register (get_or bytes i 0)) (get_or bytes (i + 1) 0)) (drop (i + 2) bytes)
-        ≡ crc direction polynomial register (drop i bytes)
-    unfolding crc
-    two_bytes_next inside =
-        let next : suc i < length bytes = omega arith in
-        rw (add-one i, add-two i, drop-cons bytes i 0 (omega arith), drop-cons bytes (suc i) 0 next)
+  -- two of them, as the array that they are cut into
+  pub pair_next : (bytes : List ℕ) (pairs : List (List ℕ)) (k register : ℕ) → pairs ≡ first_chunks 2 (length bytes / 2) bytes → k < length bytes / 2
+      → let pair : List ℕ = get_or pairs k [] in
+      crc direction polynomial (byte_step direction polynomial (byte_step direction polynomial register (get_or pair 0 0)) (get_or pair 1 0)) (drop ((k + 1) * 2) bytes)
+      ≡ crc direction polynomial register (drop (k * 2) bytes)
+  pair_next bytes pairs k register cut inside =
+      let first : get_or (get_or pairs k []) 0 0 ≡ get_or bytes (k * 2 + 0) 0 = chunk_byte bytes 2 (length bytes / 2) pairs cut k 0 inside (omega arith) in
+      let second : get_or (get_or pairs k []) 1 0 ≡ get_or bytes (k * 2 + 1) 0 = chunk_byte bytes 2 (length bytes / 2) pairs cut k 1 inside (omega arith) in
+      let next : (k + 1) * 2 ≡ k * 2 + 2 = omega arith in
+      rw (first, second, next, add-zero (k * 2)) (two_bytes_next bytes (k * 2) register (omega arith))
 
-    -- and the last one
-    pub last_byte : i < length bytes → length bytes - i < 2
-        → byte_step direction polynomial register (get_or bytes i 0) ≡ crc direction polynomial register (drop i bytes)
-    unfolding crc
-    last_byte inside behind =
-        let over : length bytes ≤ suc i = omega arith in
-        rw (drop-cons bytes i 0 inside, drop_of_length-le bytes over)
+  -- the last one, and none
+  pub one_left : (bytes : List ℕ) (register : ℕ) → length bytes ≡ 1 → byte_step direction polynomial register (get_or bytes 0 0) ≡ crc direction polynomial register bytes
+  unfolding crc
+  one_left (b ∷ []) register one = refl
+  one_left [] register one = absurd (omega arith)
+  one_left (a ∷ b ∷ bytes) register one = absurd (omega arith)
+
+  pub none_left : (bytes : List ℕ) (register : ℕ) → length bytes ≡ 0 → register ≡ crc direction polynomial register bytes
+  unfolding crc
+  none_left [] register none = refl
+  none_left (b ∷ bytes) register none = absurd (omega arith)

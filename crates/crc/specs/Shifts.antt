@@ -1,5 +1,5 @@
 -- The tag's CRC by shifts: what its parts are promised to work.
-use Rattle.std.specs.Prelude.{ℕ, ◌+◌, ◌*◌, ◌/◌, ◌%◌, List, get_or}
+use Rattle.std.specs.Prelude.{ℕ, ◌*◌, ◌/◌, ◌%◌}
 use Rattle.std.specs.Int.Bits.{bit_xor}
 use Rattle.crc.specs.Crc.{bit_steps}
 use Rattle.crc.specs.declared.Direction.TheVariants.{HighFirst}
@@ -7,10 +7,6 @@ use Rattle.crc.specs.declared.Direction.TheVariants.{HighFirst}
 -- the terms x^12, x^5 and 1 of the polynomial, times s, in a register
 abbrev pub spread : ℕ → ℕ
 spread s = bit_xor (bit_xor (s % 16 * 4096) (s % 2048 * 32)) s
-
--- four bytes as one number, the first of them highest
-abbrev pub four_in : List ℕ → ℕ → ℕ
-four_in bytes i = (get_or bytes i 0 * 256 + get_or bytes (i + 1) 0) * 65536 + (get_or bytes (i + 2) 0 * 256 + get_or bytes (i + 3) 0)
 
 -- sixteen plain steps; these twice, each with two bytes more of a number of four; and four times, with eight
 abbrev pub steps : ℕ → ℕ

@@ -1,24 +1,7 @@
-// The tables of polynomial 1021, highest bit first: the tag's. They are handed out by value, to be lent to `lookup`.
-ghost use Rattle.std.specs.Prelude.{◌≡◌};
-ghost use Rattle.crc.specs.Tables.{near_table, far_table};
-ghost use Rattle.crc.specs.declared.Direction.TheVariants.{HighFirst};
-
-// The table of the byte that is looked up last.
-pub fn near() -> [u16; 256]
-    ensures { result ≡ near_table HighFirst }
-{
-    NEAR
-}
-
-// The table of the byte before it.
-pub fn far() -> [u16; 256]
-    ensures { result ≡ far_table HighFirst }
-{
-    FAR
-}
+// The tables of polynomial 1021, highest bit first: the tag's.
 
 // Eight steps of each byte.
-const NEAR: [u16; 256] = [
+pub const NEAR: [u16; 256] = [
     0x0000, 0x1021, 0x2042, 0x3063, 0x4084, 0x50A5, 0x60C6, 0x70E7, 0x8108, 0x9129, 0xA14A, 0xB16B,
     0xC18C, 0xD1AD, 0xE1CE, 0xF1EF, 0x1231, 0x0210, 0x3273, 0x2252, 0x52B5, 0x4294, 0x72F7, 0x62D6,
     0x9339, 0x8318, 0xB37B, 0xA35A, 0xD3BD, 0xC39C, 0xF3FF, 0xE3DE, 0x2462, 0x3443, 0x0420, 0x1401,
@@ -44,7 +27,7 @@ const NEAR: [u16; 256] = [
 ];
 
 // Sixteen steps of each byte.
-const FAR: [u16; 256] = [
+pub const FAR: [u16; 256] = [
     0x0000, 0x3331, 0x6662, 0x5553, 0xCCC4, 0xFFF5, 0xAAA6, 0x9997, 0x89A9, 0xBA98, 0xEFCB, 0xDCFA,
     0x456D, 0x765C, 0x230F, 0x103E, 0x0373, 0x3042, 0x6511, 0x5620, 0xCFB7, 0xFC86, 0xA9D5, 0x9AE4,
     0x8ADA, 0xB9EB, 0xECB8, 0xDF89, 0x461E, 0x752F, 0x207C, 0x134D, 0x06E6, 0x35D7, 0x6084, 0x53B5,

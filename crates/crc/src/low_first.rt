@@ -1,24 +1,7 @@
-// The tables of polynomial 8408, lowest bit first: the one of source document 003. They are handed out by value, to be lent to `lookup`.
-ghost use Rattle.std.specs.Prelude.{◌≡◌};
-ghost use Rattle.crc.specs.Tables.{near_table, far_table};
-ghost use Rattle.crc.specs.declared.Direction.TheVariants.{LowFirst};
-
-// The table of the byte that is looked up last.
-pub fn near() -> [u16; 256]
-    ensures { result ≡ near_table LowFirst }
-{
-    NEAR
-}
-
-// The table of the byte before it.
-pub fn far() -> [u16; 256]
-    ensures { result ≡ far_table LowFirst }
-{
-    FAR
-}
+// The tables of polynomial 8408, lowest bit first: the one of source document 003.
 
 // Eight steps of each byte.
-const NEAR: [u16; 256] = [
+pub const NEAR: [u16; 256] = [
     0x0000, 0x1189, 0x2312, 0x329B, 0x4624, 0x57AD, 0x6536, 0x74BF, 0x8C48, 0x9DC1, 0xAF5A, 0xBED3,
     0xCA6C, 0xDBE5, 0xE97E, 0xF8F7, 0x1081, 0x0108, 0x3393, 0x221A, 0x56A5, 0x472C, 0x75B7, 0x643E,
     0x9CC9, 0x8D40, 0xBFDB, 0xAE52, 0xDAED, 0xCB64, 0xF9FF, 0xE876, 0x2102, 0x308B, 0x0210, 0x1399,
@@ -44,7 +27,7 @@ const NEAR: [u16; 256] = [
 ];
 
 // Sixteen steps of each byte.
-const FAR: [u16; 256] = [
+pub const FAR: [u16; 256] = [
     0x0000, 0x19D8, 0x33B0, 0x2A68, 0x6760, 0x7EB8, 0x54D0, 0x4D08, 0xCEC0, 0xD718, 0xFD70, 0xE4A8,
     0xA9A0, 0xB078, 0x9A10, 0x83C8, 0x9591, 0x8C49, 0xA621, 0xBFF9, 0xF2F1, 0xEB29, 0xC141, 0xD899,
     0x5B51, 0x4289, 0x68E1, 0x7139, 0x3C31, 0x25E9, 0x0F81, 0x1659, 0x2333, 0x3AEB, 0x1083, 0x095B,

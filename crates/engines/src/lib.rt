@@ -6,7 +6,8 @@ ghost use Rattle.crc.specs.Crc.{tag_crc, reader_crc};
 ghost use Rattle.crc.specs.Tables.{near_table, far_table, table_crc};
 ghost use Rattle.crc.specs.declared.Direction.TheVariants.{HighFirst, LowFirst};
 
-use crc::{Direction, high_first, lookup, low_first, shifts};
+use crc::lookup::{self, Tables};
+use crc::{Direction, shifts};
 
 // The tag's CRC bit by bit.
 pub fn poldrisk_tag_crc_plain(bytes: &[u8]) -> u16
@@ -40,27 +41,37 @@ pub fn poldrisk_reader_crc_bound(bytes: &[u8]) -> u16
 pub fn poldrisk_tag_tables(near: &mut [u16; 256], far: &mut [u16; 256])
     ensures { (near.new ≡ near_table HighFirst) × (far.new ≡ far_table HighFirst) }
 {
-    *near = high_first::near();
-    *far = high_first::far();
+    *near = Direction::HighFirst.near();
+    *far = Direction::HighFirst.far();
 }
 
 // With those tables it is the tag's CRC.
 pub fn poldrisk_tag_crc_lent(near: &[u16; 256], far: &[u16; 256], bytes: &[u8]) -> u16
     ensures { result ≡ 0xFFFF - table_crc HighFirst near.now far.now 0xFFFF bytes.now }
 {
-    0xffff - lookup::looked_up(Direction::HighFirst, near, far, 0xffff, bytes)
+    let tables = Tables {
+        direction: Direction::HighFirst,
+        near,
+        far,
+    };
+    0xffff - tables.crc_of(0xffff, bytes)
 }
 
 // The tables of the reader's polynomial, and what is looked up in them.
 pub fn poldrisk_reader_tables(near: &mut [u16; 256], far: &mut [u16; 256])
     ensures { (near.new ≡ near_table LowFirst) × (far.new ≡ far_table LowFirst) }
 {
-    *near = low_first::near();
-    *far = low_first::far();
+    *near = Direction::LowFirst.near();
+    *far = Direction::LowFirst.far();
 }
 
 pub fn poldrisk_reader_crc_lent(near: &[u16; 256], far: &[u16; 256], bytes: &[u8]) -> u16
     ensures { result ≡ table_crc LowFirst near.now far.now 0xFFFF bytes.now }
 {
-    lookup::looked_up(Direction::LowFirst, near, far, 0xffff, bytes)
+    let tables = Tables {
+        direction: Direction::LowFirst,
+        near,
+        far,
+    };
+    tables.crc_of(0xffff, bytes)
 }

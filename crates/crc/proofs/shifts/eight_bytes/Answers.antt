@@ -1,12 +1,11 @@
 -- `eight_bytes` meets its contract: the sum of shifts is what the plain steps give.
-use borrow.Author.Rules.{rules}
-use mathlib.Core.Path.{◌∙◌}
-use Prim.Native.Nat.{◌<◌}
+use Rattle.std.proofs.Common.{◌<◌, ◌^◌, ◌∙◌, rules}
 use Rattle.crc.proofs.Folds.{long_folded}
 use Rattle.crc.proofs.shifts.eight_bytes.Goals as goal
 
 pub returns : goal.returns
 returns c =
-    let register = c.args.register in
-    let word : register < 0x10000 = search rules in
-    c.spread_out.ensures ∙ long_folded register c.args.high c.args.low word c.requires.0 c.requires.1
+    let given = c.args in
+    let word : given.register < 0x10000 = search rules in
+    let eight : given.eight < 2 ^ 64 = search rules in
+    c.spread_out.ensures ∙ rw c.from.ensures (long_folded given.register given.eight word eight)

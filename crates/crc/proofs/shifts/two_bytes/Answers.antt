@@ -11,4 +11,4 @@ returns c =
     let word : given.register < 0x10000 = search rules in
     let a : given.a < 256 = search rules in
     let b : given.b < 256 = search rules in
-    c.sixteen_steps.ensures ∙ rw (c.as_u16.ensures, c.as_u16-2.ensures) (entered_together given.register given.a given.b word a b)
+    c.sixteen_steps.ensures ∙ rw c.from_be_bytes.ensures (entered_together given.register given.a given.b word a b)

@@ -1,6 +1,6 @@
 -- `bit_step` meets its contract: each return is one of the laws of a bit.
 use Rattle.crc.proofs.Steps.{high_one, high_zero, low_one, low_zero}
-use Rattle.crc.proofs.bit_step.Goals as goal
+use Rattle.crc.proofs.Crc16.bit_step.Goals as goal
 
 pub returns-then-register-ge32768 : goal.returns-then-register-ge32768
 returns-then-register-ge32768 c = rw c.in-HighFirst.is (high_one _ _ c.if-register-ge32768.true)
