@@ -1,41 +1,32 @@
 // Reading bytes and numbers out of a slice, at any place: what lies behind the end counts as 0. And whether bytes are there.
-ghost use Rattle.std.specs.Prelude.{◌≡◌, ◌+◌, ◌<◌, nat_le};
+ghost use Rattle.std.specs.Prelude.{◌≡◌, ◌+◌, nat_le};
 ghost use Rattle.frame.specs.Bytes.{byte, number, double, reaches};
 
+#[tactic(auto, unfolding(crate::specs::Bytes::byte))]
 pub fn byte_at(bytes: &[u8], i: usize) -> u8
     ensures { result ≡ byte bytes.now i }
 {
-    if i < bytes.len() {
-        return bytes[i];
-    }
-    0
-}
-
-// A byte as a number.
-pub fn wide(b: u8) -> usize
-    ensures { result ≡ b }
-{
-    b as usize
+    bytes.get(i).copied().unwrap_or(0)
 }
 
 // Two bytes, high first.
-pub fn number_at(bytes: &[u8], i: usize) -> usize
-    ensures value { result ≡ number bytes.now i }
-    ensures upper_bound { result < 65536 }
+#[tactic(auto, using(crate::proofs::Numbers::number_behind), unfolding(crate::specs::Bytes::number))]
+pub fn number_at(bytes: &[u8], i: usize) -> u16
+    ensures { result ≡ number bytes.now i }
 {
     if i < bytes.len() {
-        return wide(byte_at(bytes, i)) * 256 + wide(byte_at(bytes, i + 1));
+        return u16::from_be_bytes([byte_at(bytes, i), byte_at(bytes, i + 1)]);
     }
     0
 }
 
 // Four bytes, high first.
-pub fn double_at(bytes: &[u8], i: usize) -> usize
-    ensures value { result ≡ double bytes.now i }
-    ensures upper_bound { result < 4294967296 }
+#[tactic(auto, using(crate::proofs::Numbers::double_behind), unfolding(crate::specs::Bytes::double))]
+pub fn double_at(bytes: &[u8], i: usize) -> u32
+    ensures { result ≡ double bytes.now i }
 {
     if i < bytes.len() {
-        return number_at(bytes, i) * 65536 + number_at(bytes, i + 2);
+        return u32::from(number_at(bytes, i)) * 65536 + u32::from(number_at(bytes, i + 2));
     }
     0
 }
@@ -44,13 +35,7 @@ pub fn double_at(bytes: &[u8], i: usize) -> usize
 pub fn fits(at: usize, n: usize, room: usize) -> bool
     ensures { result ≡ nat_le (at + n) room }
 {
-    if room < at {
-        return false;
-    }
-    if room - at < n {
-        return false;
-    }
-    true
+    at <= room && n <= room - at
 }
 
 // Whether the n bytes from i on are all there.

@@ -7,10 +7,8 @@ pub fn check(bytes: &[u8]) -> u8
     ensures { result ≡ check_of bytes.now }
 {
     let mut total: u8 = 0;
-    let mut i = 0;
-    while i < bytes.len() {
-        total = std::num::wrapping_add_u8(total, bytes[i]);
-        i += 1;
+    for b in bytes {
+        total = total.wrapping_add(*b);
     }
     total
 }

@@ -21,15 +21,19 @@ pub enum Reason {
     WrongEnd,
 }
 
-pub fn reason_number(reason: Reason) -> u64
-    ensures { result ≡ reason_number reason }
-{
-    match reason {
-        Reason::NoHeader => 1,
-        Reason::WrongType => 2,
-        Reason::TooLong => 3,
-        Reason::WrongCheck => 4,
-        Reason::WrongEnd => 5,
+// The paper's number of a reason.
+impl From<Reason> for u64 {
+    ghost from_gives = { λ reason n. n ≡ reason_number reason };
+
+    #[tactic(auto, unfolding(crate::specs::Finding::reason_number))]
+    fn from(reason: Reason) -> u64 {
+        match reason {
+            Reason::NoHeader => 1,
+            Reason::WrongType => 2,
+            Reason::TooLong => 3,
+            Reason::WrongCheck => 4,
+            Reason::WrongEnd => 5,
+        }
     }
 }
 
@@ -51,7 +55,7 @@ pub enum Found {
 pub fn find(rest: &[u8]) -> Found
     ensures { result ≡ find commands rest.now }
 {
-    if rest.len() == 0 {
+    if rest.is_empty() {
         return Found::End;
     }
     if rest[0] != 0xbb {
@@ -66,7 +70,7 @@ pub fn find(rest: &[u8]) -> Found
     if rest.len() < 5 {
         return Found::Wait;
     }
-    let pl = number_at(rest, 3);
+    let pl = usize::from(number_at(rest, 3));
     if 80 < pl {
         return Found::Drop(Reason::TooLong);
     }

@@ -1,8 +1,10 @@
 -- Laws of the tally: when it is full, and what a raised count is.
 use Prim.Native.Nat.{ℕ, zero, suc, ◌+◌, ◌≤◌, ◌<◌}
 use borrow.Author.Tests.{eq-eqb, ne_eqb, eqb-false}
+use Rattle.std.proofs.Common.{eqb-true}
 use lib.Bits.{bit_or, and_le_l, and_le_r, or_add_and}
 use lib.Dec.{eqb}
+use Prim.Native.Nat.{min}
 use lib.ListN.{length, get_or}
 use mathlib.Core.Bool.{Bool, true, false, ◌||◌}
 use mathlib.Core.List.{List, [], ◌∷◌}
@@ -81,3 +83,11 @@ raised_below n h = simp (ne_eqb n limit h, pick_false)
 pub raised_most : (n : ℕ) → raised n ≤ n + 1
 unfolding raised
 raised_most n = by_test (λ (k : ℕ). k ≤ n + 1) (eqb n limit) (λ h. omega arith) (λ h. omega arith)
+
+-- one more, or the most that 32 bits hold
+pub saturates : (n : ℕ) → n < 4294967296 → min (n + 1) 4294967295 ≡ raised n
+unfolding raised limit
+saturates n fits =
+    by_test (λ (k : ℕ). min (n + 1) 4294967295 ≡ k) (eqb n 4294967295)
+    (λ h. let e : n ≡ 4294967295 = eqb-true n 4294967295 h in omega arith)
+    (λ h. let e : (n ≡ 4294967295 → ⊥) = eqb-false n 4294967295 h in omega arith)

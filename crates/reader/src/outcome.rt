@@ -2,7 +2,7 @@
 ghost use Rattle.std.specs.Prelude.{◌≡◌};
 ghost use Rattle.reader.specs.Outcomes.{number_of, reason_of};
 
-use frame::finding::{Reason, reason_number};
+use frame::finding::Reason;
 
 #[derive(Clone, Copy)]
 pub enum Outcome {
@@ -26,35 +26,33 @@ pub enum Outcome {
     FullList,
 }
 
-pub fn number_of(outcome: Outcome) -> u64
-    ensures { result ≡ number_of outcome }
-{
-    match outcome {
-        Outcome::Answered => 0,
-        Outcome::AtEnd => 1,
-        Outcome::Incomplete => 2,
-        Outcome::Dropped(_) => 3,
-        Outcome::PastEnd => 10,
-        Outcome::BadImage => 11,
-        Outcome::ShortOutput => 12,
-        Outcome::FullTally => 13,
-        Outcome::FullList => 14,
+// The number of the answer.
+impl From<Outcome> for u64 {
+    ghost from_gives = { λ outcome n. n ≡ number_of outcome };
+
+    #[tactic(auto, unfolding(crate::specs::Outcomes::number_of))]
+    fn from(outcome: Outcome) -> u64 {
+        match outcome {
+            Outcome::Answered => 0,
+            Outcome::AtEnd => 1,
+            Outcome::Incomplete => 2,
+            Outcome::Dropped(_) => 3,
+            Outcome::PastEnd => 10,
+            Outcome::BadImage => 11,
+            Outcome::ShortOutput => 12,
+            Outcome::FullTally => 13,
+            Outcome::FullList => 14,
+        }
     }
 }
 
-// 0 where no byte was dropped.
+// The number of the reason; 0 where no byte was dropped.
+#[tactic(auto, unfolding(crate::specs::Outcomes::reason_of))]
 pub fn reason_of(outcome: Outcome) -> u64
     ensures { result ≡ reason_of outcome }
 {
     match outcome {
-        Outcome::Dropped(reason) => reason_number(reason),
-        Outcome::Answered => 0,
-        Outcome::AtEnd => 0,
-        Outcome::Incomplete => 0,
-        Outcome::PastEnd => 0,
-        Outcome::BadImage => 0,
-        Outcome::ShortOutput => 0,
-        Outcome::FullTally => 0,
-        Outcome::FullList => 0,
+        Outcome::Dropped(reason) => u64::from(reason),
+        _ => 0,
     }
 }

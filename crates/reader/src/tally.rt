@@ -1,6 +1,6 @@
 // The tally: seven counts, by value. A method hands back the tally with one count raised.
 ghost use Rattle.std.specs.Prelude.{◌≡◌};
-ghost use Rattle.reader.specs.Tallies.{raised, fresh_tally, with_good, with_error, with_no_header, with_wrong_type, with_too_long, with_wrong_check, with_wrong_end, with_dropped, full};
+ghost use Rattle.reader.specs.Tallies.{raised, fresh_tally, with_good, with_error, with_no_header, with_wrong_type, with_too_long, with_wrong_check, with_wrong_end, with_dropped, counts_of, full};
 
 use frame::finding::Reason;
 
@@ -18,16 +18,13 @@ pub struct Tally {
 }
 
 // The most that a count can hold.
-const LIMIT: u32 = 4294967295;
+const LIMIT: u32 = u32::MAX;
 
 // One more; at the limit a count stays, so that every method is total. A call refuses a full tally before it comes to that.
 fn raise(count: u32) -> u32
     ensures { result ≡ raised count }
 {
-    if count == LIMIT {
-        return count;
-    }
-    count + 1
+    count.saturating_add(1)
 }
 
 impl Tally {
@@ -50,12 +47,7 @@ impl Tally {
     {
         Self {
             good: raise(self.good),
-            error: self.error,
-            header: self.header,
-            kind: self.kind,
-            long: self.long,
-            check: self.check,
-            end: self.end,
+            ..self
         }
     }
 
@@ -63,13 +55,8 @@ impl Tally {
         ensures { result ≡ with_error self }
     {
         Self {
-            good: self.good,
             error: raise(self.error),
-            header: self.header,
-            kind: self.kind,
-            long: self.long,
-            check: self.check,
-            end: self.end,
+            ..self
         }
     }
 
@@ -77,13 +64,8 @@ impl Tally {
         ensures { result ≡ with_no_header self }
     {
         Self {
-            good: self.good,
-            error: self.error,
             header: raise(self.header),
-            kind: self.kind,
-            long: self.long,
-            check: self.check,
-            end: self.end,
+            ..self
         }
     }
 
@@ -91,13 +73,8 @@ impl Tally {
         ensures { result ≡ with_wrong_type self }
     {
         Self {
-            good: self.good,
-            error: self.error,
-            header: self.header,
             kind: raise(self.kind),
-            long: self.long,
-            check: self.check,
-            end: self.end,
+            ..self
         }
     }
 
@@ -105,13 +82,8 @@ impl Tally {
         ensures { result ≡ with_too_long self }
     {
         Self {
-            good: self.good,
-            error: self.error,
-            header: self.header,
-            kind: self.kind,
             long: raise(self.long),
-            check: self.check,
-            end: self.end,
+            ..self
         }
     }
 
@@ -119,13 +91,8 @@ impl Tally {
         ensures { result ≡ with_wrong_check self }
     {
         Self {
-            good: self.good,
-            error: self.error,
-            header: self.header,
-            kind: self.kind,
-            long: self.long,
             check: raise(self.check),
-            end: self.end,
+            ..self
         }
     }
 
@@ -133,17 +100,13 @@ impl Tally {
         ensures { result ≡ with_wrong_end self }
     {
         Self {
-            good: self.good,
-            error: self.error,
-            header: self.header,
-            kind: self.kind,
-            long: self.long,
-            check: self.check,
             end: raise(self.end),
+            ..self
         }
     }
 
     // A byte was dropped for this reason.
+    #[tactic(auto, unfolding(crate::specs::Tallies::with_dropped))]
     pub fn with_dropped(self, reason: Reason) -> Self
         ensures { result ≡ with_dropped reason self }
     {
@@ -154,6 +117,21 @@ impl Tally {
             Reason::WrongCheck => self.with_wrong_check(),
             Reason::WrongEnd => self.with_wrong_end(),
         }
+    }
+
+    // The counts in their order.
+    fn counts(self) -> [u32; 7]
+        ensures { result ≡ counts_of self }
+    {
+        [
+            self.good,
+            self.error,
+            self.header,
+            self.kind,
+            self.long,
+            self.check,
+            self.end,
+        ]
     }
 
     // Some count is at the limit. Every call asks this, and hardly ever is one: the bits of all of them together settle it at once.
@@ -170,24 +148,6 @@ impl Tally {
         if bits < LIMIT {
             return false;
         }
-        if self.good == LIMIT {
-            return true;
-        }
-        if self.error == LIMIT {
-            return true;
-        }
-        if self.header == LIMIT {
-            return true;
-        }
-        if self.kind == LIMIT {
-            return true;
-        }
-        if self.long == LIMIT {
-            return true;
-        }
-        if self.check == LIMIT {
-            return true;
-        }
-        self.end == LIMIT
+        self.counts().contains(&LIMIT)
     }
 }

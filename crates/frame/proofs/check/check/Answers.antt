@@ -4,21 +4,12 @@ use Rattle.frame.specs.Frames.{check_of}
 use Rattle.frame.proofs.Sums.{sum_next, sum_behind}
 use Rattle.frame.proofs.check.check.Goals as goal
 
-pub loop-i-init : goal.loop-i-init
+pub loop-b-init : goal.loop-b-init
 unfolding check_of
-loop-i-init c = omega arith
+loop-b-init c = omega arith
 
-pub loop-i-preserved : goal.loop-i-preserved
-loop-i-preserved c =
-    omega (
-      arith,
-      sum_next
-          c.args.bytes.now
-          c.loop-i.i
-          c.loop-i-test.true,
-    )
+pub loop-b-preserved : goal.loop-b-preserved
+loop-b-preserved c = omega (arith, sum_next c.args.bytes.now c.loop-b.b-index c.loop-b-test.true)
 
 pub returns : goal.returns
-returns c =
-    omega
-    (arith, sum_behind c.args.bytes.now c.loop-i.i c.loop-i-test.false)
+returns c = omega (arith, sum_behind c.args.bytes.now c.loop-b.b-index c.loop-b-test.false)
