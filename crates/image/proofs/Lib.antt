@@ -1,9 +1,7 @@
-pub mod Banks
 pub mod Changes
 pub mod Claimed
 pub mod CrcStores
 pub mod CrcWords
 pub mod GoodImages
-pub mod Heads
 pub mod ImageTable
 pub mod Places

@@ -1,4 +1,3 @@
-pub mod Bounds
 pub mod Claims
 pub mod Image
 pub mod Spans

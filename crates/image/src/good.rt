@@ -1,124 +1,64 @@
 // Whether an image is good (document 01, "The image"): one test after another, and the first that fails settles it.
-ghost use Rattle.std.specs.Prelude.{◌≡◌, ◌+◌, ◌*◌, ◌<◌, ◌≤◌, leb, length};
-ghost use Rattle.image.specs.Bounds.{SmallBank, Small};
-ghost use Rattle.image.specs.Spans.{head_of};
-ghost use Rattle.image.specs.Image.{end_of, view, epc_length, good_header, good_banks, good_tag, good_crc, good};
+ghost use Rattle.std.specs.Prelude.{◌≡◌};
+ghost use Rattle.image.specs.Image.{end_of, view, good_header, good_banks, good_tag, good_crc, good};
 
-use crate::header::{Bank, View, head_of, number_in};
+use crate::crc_word::crc_of_span;
+use crate::header::{Bank, Span, View, view_of};
+use frame::bytes::number_at;
 
-// Whether a bank's end is at most `limit`. Both fields come from two bytes each, so the sum does not wrap.
-fn ends_by(b: Bank, limit: usize) -> bool
-    requires { SmallBank b }
-    ensures { result ≡ leb (end_of b) limit }
+// Where a bank ends.
+#[tactic(auto, unfolding(crate::specs::Image::end_of, crate::specs::Image::word_at))]
+fn end_of(b: Bank) -> usize
+    ensures { result ≡ end_of b }
 {
-    if limit < b.offset + 2 * b.words {
-        return false;
-    }
-    true
+    usize::from(b.offset) + 2 * usize::from(b.words)
 }
 
+#[tactic(auto, using(std::proofs::lemmas::Bool::Decides::nat_tests), unfolding(crate::specs::Image::good_header, frame::specs::Bytes::all))]
 fn is_good_header(v: View) -> bool
     ensures { result ≡ good_header v }
 {
-    if v.size < 24 {
-        return false;
-    }
-    if v.format != 1 {
-        return false;
-    }
-    if v.total != v.size {
-        return false;
-    }
-    if 2048 < v.size {
-        return false;
-    }
-    true
+    24 <= v.size && v.format == 1 && usize::from(v.total) == v.size && v.size <= 2048
 }
 
+#[tactic(auto, using(std::proofs::lemmas::Bool::Decides::nat_tests), unfolding(crate::specs::Image::good_banks, frame::specs::Bytes::all))]
 fn is_good_banks(v: View) -> bool
-    requires { Small v }
     ensures { result ≡ good_banks v }
 {
-    let reserved = v.reserved;
-    let epc = v.epc;
-    let tid = v.tid;
-    let user = v.user;
-    if reserved.words != 4 {
-        return false;
-    }
-    if epc.words < 2 {
-        return false;
-    }
-    if 33 < epc.words {
-        return false;
-    }
-    if tid.words < 1 {
-        return false;
-    }
-    if 32 < tid.words {
-        return false;
-    }
-    if 512 < user.words {
-        return false;
-    }
-    if reserved.offset < 24 {
-        return false;
-    }
-    if !ends_by(reserved, epc.offset) {
-        return false;
-    }
-    if !ends_by(epc, tid.offset) {
-        return false;
-    }
-    if !ends_by(tid, user.offset) {
-        return false;
-    }
-    ends_by(user, v.total)
+    v.reserved.words == 4
+        && 2 <= v.epc.words
+        && v.epc.words <= 33
+        && 1 <= v.tid.words
+        && v.tid.words <= 32
+        && v.user.words <= 512
+        && 24 <= v.reserved.offset
+        && end_of(v.reserved) <= usize::from(v.epc.offset)
+        && end_of(v.epc) <= usize::from(v.tid.offset)
+        && end_of(v.tid) <= usize::from(v.user.offset)
+        && end_of(v.user) <= usize::from(v.total)
 }
 
-// The PC is read here, where the tests of the banks have shown that it is there.
-fn is_good_tag(image: &[u8], v: View) -> bool
-    requires { (v ≡ head_of (view image.now)) × (v.epc.offset + 3 < length image.now) }
-    ensures { result ≡ good_tag (view image.now) }
+fn is_good_tag(v: View) -> bool
+    ensures { result ≡ good_tag v }
 {
-    let epc = v.epc;
-    if 1024 <= v.locks {
-        return false;
-    }
-    if 2 < v.state {
-        return false;
-    }
-    if epc.words < number_in(image, epc.offset + 2) / 2048 + 2 {
-        return false;
-    }
-    true
+    v.locks < 1024 && v.state <= 2 && v.pc / 2048 + 2 <= v.epc.words
 }
 
-// PC and EPC are known to be there, so that nothing is tested on the way to them: `crc_of_epc` is for any image.
-fn is_good_crc(image: &[u8], epc: Bank) -> bool
-    requires { (epc ≡ (view image.now).epc) × (epc.offset + 4 + 2 * epc_length (view image.now).pc ≤ length image.now) }
+fn is_good_crc(image: &[u8], v: View) -> bool
+    requires { v ≡ view image.now }
     ensures { result ≡ good_crc image.now }
 {
-    let from = epc.offset + 2;
-    let count = 2 + 2 * (number_in(image, from) / 2048);
-    number_in(image, epc.offset) == crc::shifts::tag_crc(&image[from..from + count]) as usize
+    let place = Span::of_epc(v.epc.offset, v.pc);
+    number_at(image, usize::from(v.epc.offset)) == crc_of_span(image, place)
 }
 
+#[tactic(auto, using(std::proofs::lemmas::Bool::Decides::nat_tests), unfolding(crate::specs::Image::good))]
 pub fn is_good(image: &[u8]) -> bool
     ensures { result ≡ good image.now }
 {
     if image.len() < 24 {
         return false;
     }
-    let v = head_of(image);
-    if !is_good_header(v) {
-        return false;
-    }
-    if !is_good_banks(v) {
-        return false;
-    }
-    if !is_good_tag(image, v) {
-        return false;
-    }
-    is_good_crc(image, v.epc)
+    let v = view_of(image);
+    is_good_header(v) && is_good_banks(v) && is_good_tag(v) && is_good_crc(image, v)
 }

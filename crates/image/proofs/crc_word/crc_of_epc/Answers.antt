@@ -1,9 +1,7 @@
--- `crc_of_epc` meets its contract: the part of the image that it works is what is there of the PC and the EPC.
-use mathlib.Core.Path.{◌∙◌}
-use Rattle.image.proofs.CrcWords.{worked_bytes}
+-- `crc_of_epc` meets its contract: the span is that of the PC and the EPC.
+use Rattle.image.specs.Image.{crc_word, pc_and_epc, word_at, epc_length}
 use Rattle.image.proofs.crc_word.crc_of_epc.Goals as goal
 
 pub returns : goal.returns
-returns c =
-    c.tag_crc.ensures
-    ∙ rw (c.at_most-count.ensures.value, c.at_most-from.ensures.value) (worked_bytes _ _ c.epc_span-place.ensures)
+unfolding crc_word pc_and_epc word_at epc_length
+returns c = rw (c.crc_of_span.ensures, c.epc_span.ensures.from_is, c.epc_span.ensures.count_is)
