@@ -1,3 +1,4 @@
+pub mod Admissions
 pub mod AnswerBytes
 pub mod Cases
 pub mod Claimed
@@ -8,6 +9,6 @@ pub mod LockWords
 pub mod NamedWords
 pub mod RawLocks
 pub mod RawTests
-pub mod Reach
 pub mod Rows
 pub mod StaysGood
+pub mod Tests

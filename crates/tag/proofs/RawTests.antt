@@ -16,7 +16,7 @@ use Rattle.tag.specs.Claims.{access_stored, wrong, secured, refuses, among}
 use Rattle.tag.specs.Commands.{data_in, names_crc, length_broken}
 use Rattle.image.specs.Image.{bank_at, view, bank_of, epc_length, access_password}
 use Rattle.tag.specs.Locks.{pairs, standing_of, standing, is_secured, is_wrong, allows, touches, may_touch_passwords, may_read, may_write}
-use Rattle.tag.specs.declared.commands.Act.{Act}
+use Rattle.tag.specs.Errors.{Verdict}
 use Rattle.tag.specs.declared.locks.Standing.{Standing}
 
 -- ---- standings
@@ -108,7 +108,7 @@ not_passwords true true true true b = refl
 not_passwords true true false access b = refl
 
 -- "A touched password region not readable", region by region
-pub unreadable : (image : List ℕ) (given bank pointer count : ℕ) (x y : Act) → 1 ≤ count
+pub unreadable : (image : List ℕ) (given bank pointer count : ℕ) (x y : Verdict) → 1 ≤ count
     → pick (not (may_read (view image) (standing image given) bank pointer count)) x y
     ≡ pick (eqb bank 0 && (among pointer count 0 || among pointer count 1) && refuses (number image 20) 9 8 (secured (access_stored image) given)) x
     (pick (eqb bank 0 && (among pointer count 2 || among pointer count 3) && refuses (number image 20) 7 6 (secured (access_stored image) given)) x y)
@@ -137,7 +137,7 @@ not_writable (suc (suc (suc zero))) kill a access b epc tid user h = refl
 not_writable (suc (suc (suc (suc n)))) kill a access b epc tid user h = absurd (omega arith)
 
 -- "A touched region not writable", region by region
-pub unwritable : (image : List ℕ) (given bank pointer count : ℕ) (x y : Act) → bank ≤ 3 → 1 ≤ count
+pub unwritable : (image : List ℕ) (given bank pointer count : ℕ) (x y : Verdict) → bank ≤ 3 → 1 ≤ count
     → pick (not (may_write (view image) (standing image given) bank pointer count)) x y
     ≡ pick (eqb bank 0 && (among pointer count 0 || among pointer count 1) && refuses (number image 20) 9 8 (secured (access_stored image) given)) x
     (pick (eqb bank 0 && (among pointer count 2 || among pointer count 3) && refuses (number image 20) 7 6 (secured (access_stored image) given)) x
@@ -168,7 +168,7 @@ unwritable image given bank pointer count x y known some =
 -- ---- a Write's lengths
 
 -- a length that is too short is not the right one either
-pub short_too : (n m : ℕ) (x y : Act) → 9 ≤ m → pick (not (eqb n m)) x y ≡ pick (ltb n 9) x (pick (not (eqb n m)) x y)
+pub short_too : (n m : ℕ) (x y : Verdict) → 9 ≤ m → pick (not (eqb n m)) x y ≡ pick (ltb n 9) x (pick (not (eqb n m)) x y)
 unfolding pick
 short_too n m x y long = either (ltb n 9) (λ h. let short : n < 9 = ltb-true _ _ h in simp (h, ne_eqb n m (omega arith))) (λ h. simp h)
 

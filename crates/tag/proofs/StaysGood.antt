@@ -26,7 +26,7 @@ use Rattle.tag.specs.Commands.{bank_in, pointer_in, count_in, data_in, ld_in, le
 use Rattle.image.specs.Image.{good, view, bank_at, bank_of, word_at, epc_length}
 use Rattle.tag.specs.Bounds.{Paired}
 use Rattle.tag.specs.Locks.{pairs, new_pairs}
-use Rattle.tag.specs.declared.commands.Act.{Act}
+use Rattle.tag.specs.Errors.{Verdict}
 use Rattle.image.specs.declared.header.Bank.{Bank}
 use Rattle.image.specs.declared.header.View.{View}
 
@@ -177,7 +177,7 @@ pub stays_good : (image p : List ℕ) (code : ℕ) → good image ≡ true → g
 unfolding changed bytes_of
 stays_good image p code h =
     let g : Good (view image) = good_facts image h in
-    act_cases (λ (act : Act). good (changed image p act) ≡ true) (λ e. h) (λ e. h) image p code
+    act_cases (λ (verdict : Verdict). good (changed image p verdict) ≡ true) (λ e. h) (λ e. h) image p code
     (λ n. h)
     (λ n reads. h)
     (λ n writes. good_write image p h writes)

@@ -2,7 +2,7 @@
 -- paper's order and words: the first row whose test holds gives the answer frame and the image that is left. No row cites the definition that
 -- it pins: of the definitions of this crate the tables name only `good`, and `answer`, `changed` and `act_of`, which are what is claimed of. The
 -- last part is about the definitions' own words for locks. Each statement is proved in proofs/Claimed.antt, for every image and all parameters.
-use Rattle.std.specs.Prelude.{ℕ, ◌+◌, ◌-◌, ◌*◌, ◌/◌, ◌%◌, ◌^◌, ◌≤◌, ◌<◌, Bool, true, false, not, ◌&&◌, ◌||◌, List, [], ◌∷◌, ◌++◌, map, ◌≢◌, ◌≡◌, eqb, leb, ltb, length, drop}
+use Rattle.std.specs.Prelude.{ℕ, ◌+◌, ◌-◌, ◌*◌, ◌/◌, ◌%◌, ◌^◌, ◌≤◌, ◌<◌, Bool, true, false, not, ◌&&◌, ◌||◌, List, [], ◌∷◌, ◌++◌, map, Err, ◌≢◌, ◌≡◌, eqb, leb, ltb, length, drop}
 use Rattle.std.proofs.lemmas.List.Edits.{sets}
 use Rattle.crc.specs.Crc.{tag_crc}
 use Rattle.frame.specs.Bytes.{pick, first_of, byte, number, double, part}
@@ -11,8 +11,9 @@ use Rattle.tag.specs.Answers.{answer, changed}
 use Rattle.tag.specs.Commands.{act_of, gone, read_verdict, write_verdict}
 use Rattle.image.specs.Image.{bank_of}
 use Rattle.tag.specs.Locks.{pairs, standing_of, is_wrong, allows, may_read, may_write, refuses_pair, new_pair}
-use Rattle.tag.specs.declared.commands.Act.{Act}
-use Rattle.tag.specs.declared.commands.Act.TheVariants.{TagError}
+use Rattle.tag.specs.Errors.{Verdict}
+use Rattle.tag.specs.declared.errors.Refusal.TheVariants.{Tag}
+use Rattle.tag.specs.declared.errors.TagError.TheVariants.{ReadOutside, WriteOutside}
 use Rattle.image.specs.declared.header.View.{View}
 use Rattle.tag.specs.declared.locks.Standing.{Standing}
 use Rattle.tag.specs.declared.locks.Standing.TheVariants.{Secured, Open, Wrong}
@@ -27,8 +28,8 @@ is_set n k = eqb (bit n k) 1
 -- ---- what a command comes to: the answer frame, and the image that is left
 
 -- `claimed of` a command: the frame that the definitions answer it with, and the image after it
-unfoldable pub outcome : List ℕ → List ℕ → Act → List ℕ × List ℕ
-outcome image p act = (answer image act, changed image p act)
+unfoldable pub outcome : List ℕ → List ℕ → Verdict → List ℕ × List ℕ
+outcome image p verdict = (answer image verdict, changed image p verdict)
 
 abbrev pub comes_to : List ℕ → ℕ → List ℕ → List ℕ × List ℕ
 comes_to image code p = outcome image p (act_of image code p)
@@ -298,8 +299,8 @@ pub record Regions (v : View) (s : Standing) (pointer n : ℕ) : Type 0 where
 
 -- "Testing the lock before the range" is an error: whatever the locks, words that the bank does not have answer A3 and B3.
 pub record RangeBeforeLock (v : View) (s : Standing) (bank pointer n : ℕ) (words : List ℕ) : Type 0 where
-  pub read : gone v ≡ false → is_wrong s ≡ false → (bank_of v bank).words < pointer + n → read_verdict v s bank pointer n ≡ TagError 0xA3
-  pub write : gone v ≡ false → is_wrong s ≡ false → (bank_of v bank).words < pointer + n → write_verdict v s bank pointer n words ≡ TagError 0xB3
+  pub read : gone v ≡ false → is_wrong s ≡ false → (bank_of v bank).words < pointer + n → read_verdict v s bank pointer n ≡ Err (Tag ReadOutside)
+  pub write : gone v ≡ false → is_wrong s ≡ false → (bank_of v bank).words < pointer + n → write_verdict v s bank pointer n words ≡ Err (Tag WriteOutside)
 
 -- "A tag is secured for one command if its stored access password is zero and the command's is zero, or the command's is nonzero and
 -- equal. A nonzero password that differs is wrong, also where the stored one is zero. A zero password against a nonzero stored one

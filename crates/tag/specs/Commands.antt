@@ -1,13 +1,20 @@
 -- Document 01, "The commands, checks in order". A command is parsed from its code and parameters alone, and here all
 -- plain 17 answers fall. Then a verdict, which sees no password byte, gives the act.
-use Rattle.std.specs.Prelude.{ℕ, ◌+◌, ◌-◌, ◌*◌, ◌/◌, ◌%◌, Bool, not, ◌&&◌, List, eqb, leb, ltb, length, drop}
+use Rattle.std.specs.Prelude.{ℕ, ◌+◌, ◌-◌, ◌*◌, ◌/◌, ◌%◌, Bool, not, ◌&&◌, List, Result, Ok, Err, eqb, leb, ltb, length, drop}
 use Rattle.frame.specs.Bytes.{pick, byte, number, double}
+use Rattle.tag.specs.Errors.{Verdict}
 use Rattle.image.specs.Image.{view, bank_of, word_at, epc_length}
 use Rattle.tag.specs.Locks.{pairs, bits_of, standing, is_secured, is_wrong, kill_standing, may_read, may_write, new_pairs, refuses_lock}
 use Rattle.tag.specs.declared.commands.Act.{Act}
-use Rattle.tag.specs.declared.commands.Act.TheVariants.{PlainError, TagError, Notify, Give, Store, Set}
+use Rattle.tag.specs.declared.commands.Act.TheVariants.{Notify, Give, Store, Set}
 use Rattle.tag.specs.declared.commands.Parsed.{Parsed}
 use Rattle.tag.specs.declared.commands.Parsed.TheVariants.{Malformed, Inventory, Read, Write, Lock, Kill}
+use Rattle.tag.specs.declared.errors.PlainError.{PlainError}
+use Rattle.tag.specs.declared.errors.PlainError.TheVariants.{NotInventoried, NotRead, NotWritten, NotLocked, NotKilled, NoCommand}
+use Rattle.tag.specs.declared.errors.Refusal.{Refusal}
+use Rattle.tag.specs.declared.errors.Refusal.TheVariants.{Plain, Tag}
+use Rattle.tag.specs.declared.errors.TagError.{TagError}
+use Rattle.tag.specs.declared.errors.TagError.TheVariants.{WrongPassword, ReadOutside, ReadLocked, WriteOutside, WriteLocked, NoUserWords, Permalocked, NoKillPassword}
 use Rattle.tag.specs.declared.locks.KillStanding.{KillStanding}
 use Rattle.tag.specs.declared.locks.KillStanding.TheVariants.{NoneStored, Equal, Different}
 use Rattle.tag.specs.declared.locks.Standing.{Standing}
@@ -71,32 +78,37 @@ parse code p =
 unfoldable pub gone : View → Bool
 gone v = not (eqb v.state 0)
 
--- "State not 0: plain e"; `act` is what the command's further checks come to
-unfoldable pub if_present : View → ℕ → Act → Act
-if_present v e act = pick (gone v) (PlainError e) act
+-- "State not 0: plain e"; `verdict` is what the command's further checks come to
+unfoldable pub if_present : View → PlainError → Verdict → Verdict
+if_present v e verdict = pick (gone v) (Err (Plain e)) verdict
 
 -- "State not 0: plain e. Wrong password: tag error 16."
-unfoldable pub admitted : View → Standing → ℕ → Act → Act
-admitted v s e act = if_present v e (pick (is_wrong s) (TagError 0x16) act)
+unfoldable pub admitted : View → Standing → PlainError → Verdict → Verdict
+admitted v s e verdict = if_present v e (pick (is_wrong s) (Err (Tag WrongPassword)) verdict)
+
+-- where what is left to check refuses, it is with a tag error
+unfoldable pub of_tag : Result Act TagError → Verdict
+of_tag (Ok act) = Ok act
+of_tag (Err e) = Err (Tag e)
 
 -- "Pointer + count above the bank's words"
 unfoldable pub outside : View → ℕ → ℕ → ℕ → Bool
 outside v bank pointer count = ltb (bank_of v bank).words (pointer + count)
 
 -- 0x22: "State not 0: plain 15."
-unfoldable pub inventory_verdict : View → Act
-inventory_verdict v = if_present v 0x15 Notify
+unfoldable pub inventory_verdict : View → Verdict
+inventory_verdict v = if_present v NotInventoried (Ok Notify)
 
 -- 0x39: "State not 0: plain 09. Wrong password: tag error 16." And then: "Pointer + count above the bank's words: A3. A touched
 -- password region not readable: A4. Else the tail, then the words."
-unfoldable pub read_act : View → Standing → ℕ → ℕ → ℕ → Act
+unfoldable pub read_act : View → Standing → ℕ → ℕ → ℕ → Result Act TagError
 read_act v s bank pointer count =
-    pick (outside v bank pointer count) (TagError 0xA3)
-    (pick (not (may_read v s bank pointer count)) (TagError 0xA4)
-    (Give (word_at (bank_of v bank) pointer) (2 * count)))
+    pick (outside v bank pointer count) (Err ReadOutside)
+    (pick (not (may_read v s bank pointer count)) (Err ReadLocked)
+    (Ok (Give (word_at (bank_of v bank) pointer) (2 * count))))
 
-unfoldable pub read_verdict : View → Standing → ℕ → ℕ → ℕ → Act
-read_verdict v s bank pointer count = admitted v s 0x09 (read_act v s bank pointer count)
+unfoldable pub read_verdict : View → Standing → ℕ → ℕ → ℕ → Verdict
+read_verdict v s bank pointer count = admitted v s NotRead (of_tag (read_act v s bank pointer count))
 
 -- P4: "A Write that names EPC word 0"
 unfoldable pub names_crc : ℕ → ℕ → Bool
@@ -112,46 +124,46 @@ length_broken v bank pointer count words =
 
 -- 0x49: "State: plain 10. Password: 16." And then: "Range: B3. A touched region not writable: B4." P4: "A Write that names EPC word 0 answers B4 just after the lock
 -- check and before the length check." "Bank 1, word 1 written, new L + 2 above the EPC words: B3. Else all words are written"
-unfoldable pub write_act : View → Standing → ℕ → ℕ → ℕ → List ℕ → Act
+unfoldable pub write_act : View → Standing → ℕ → ℕ → ℕ → List ℕ → Result Act TagError
 write_act v s bank pointer count words =
-    pick (outside v bank pointer count) (TagError 0xB3)
-    (pick (not (may_write v s bank pointer count)) (TagError 0xB4)
-    (pick (names_crc bank pointer) (TagError 0xB4)
-    (pick (length_broken v bank pointer count words) (TagError 0xB3)
-    (Store (word_at (bank_of v bank) pointer)))))
+    pick (outside v bank pointer count) (Err WriteOutside)
+    (pick (not (may_write v s bank pointer count)) (Err WriteLocked)
+    (pick (names_crc bank pointer) (Err WriteLocked)
+    (pick (length_broken v bank pointer count words) (Err WriteOutside)
+    (Ok (Store (word_at (bank_of v bank) pointer))))))
 
-unfoldable pub write_verdict : View → Standing → ℕ → ℕ → ℕ → List ℕ → Act
-write_verdict v s bank pointer count words = admitted v s 0x10 (write_act v s bank pointer count words)
+unfoldable pub write_verdict : View → Standing → ℕ → ℕ → ℕ → List ℕ → Verdict
+write_verdict v s bank pointer count words = admitted v s NotWritten (of_tag (write_act v s bank pointer count words))
 
 -- 0x82: "State: plain 13. Password: 16." And then: "Not secured: plain 13 (house)." "Mask touches User and User has 0 words: C3."
 -- P3: "Refusal of any region comes before any store.": C4. "Else all pairs are stored"
-unfoldable pub lock_act : View → Standing → ℕ → ℕ → Act
+unfoldable pub lock_act : View → Standing → ℕ → ℕ → Verdict
 lock_act v s mask action =
-    pick (not (is_secured s)) (PlainError 0x13)
-    (pick (not (eqb (pairs mask).user 0) && eqb v.user.words 0) (TagError 0xC3)
-    (pick (refuses_lock (pairs mask) (pairs action) (pairs v.locks)) (TagError 0xC4)
-    (Set 0x82 20 2 (bits_of (new_pairs (pairs mask) (pairs action) (pairs v.locks))))))
+    pick (not (is_secured s)) (Err (Plain NotLocked))
+    (pick (not (eqb (pairs mask).user 0) && eqb v.user.words 0) (Err (Tag NoUserWords))
+    (pick (refuses_lock (pairs mask) (pairs action) (pairs v.locks)) (Err (Tag Permalocked))
+    (Ok (Set 0x82 20 2 (bits_of (new_pairs (pairs mask) (pairs action) (pairs v.locks)))))))
 
-unfoldable pub lock_verdict : View → Standing → ℕ → ℕ → Act
-lock_verdict v s mask action = admitted v s 0x13 (lock_act v s mask action)
+unfoldable pub lock_verdict : View → Standing → ℕ → ℕ → Verdict
+lock_verdict v s mask action = admitted v s NotLocked (lock_act v s mask action)
 
 -- 0x65: "State: plain 12." And then: "Stored one zero: D0. Different: plain 12. Else state becomes 1"
-unfoldable pub kill_act : KillStanding → Act
-kill_act NoneStored = TagError 0xD0
-kill_act Different = PlainError 0x12
-kill_act Equal = Set 0x65 22 1 1
+unfoldable pub kill_act : KillStanding → Verdict
+kill_act NoneStored = Err (Tag NoKillPassword)
+kill_act Different = Err (Plain NotKilled)
+kill_act Equal = Ok (Set 0x65 22 1 1)
 
-unfoldable pub kill_verdict : View → KillStanding → Act
-kill_verdict v k = if_present v 0x12 (kill_act k)
+unfoldable pub kill_verdict : View → KillStanding → Verdict
+kill_verdict v k = if_present v NotKilled (kill_act k)
 
 -- what a parsed command comes to on an image; `p` are its parameters, of which only a Write's data is looked at again
-unfoldable pub verdict : List ℕ → List ℕ → Parsed → Act
-verdict image p Malformed = PlainError 0x17
+unfoldable pub verdict : List ℕ → List ℕ → Parsed → Verdict
+verdict image p Malformed = Err (Plain NoCommand)
 verdict image p Inventory = inventory_verdict (view image)
 verdict image p (Read password bank pointer count) = read_verdict (view image) (standing image password) bank pointer count
 verdict image p (Write password bank pointer count) = write_verdict (view image) (standing image password) bank pointer count (data_in p)
 verdict image p (Lock password mask action) = lock_verdict (view image) (standing image password) mask action
 verdict image p (Kill password) = kill_verdict (view image) (kill_standing image password)
 
-unfoldable pub act_of : List ℕ → ℕ → List ℕ → Act
+unfoldable pub act_of : List ℕ → ℕ → List ℕ → Verdict
 act_of image code p = verdict image p (parse code p)

@@ -2,4 +2,5 @@ pub mod Answers
 pub mod Bounds
 pub mod Claims
 pub mod Commands
+pub mod Errors
 pub mod Locks

@@ -3,40 +3,47 @@ ghost use Rattle.std.specs.Prelude.{◌≡◌};
 ghost use Rattle.tag.specs.Commands.{verdict, act_of};
 ghost use Rattle.tag.specs.Locks.{standing, kill_standing};
 
-use crate::admission::{admit, if_present};
+use crate::admission::{admit, admit_present};
 use crate::commands::{Act, Parsed};
+use crate::errors::{PlainError, Refusal};
 use crate::lock_acts::{kill_act, lock_act};
 use crate::locks::{KillStanding, Standing};
 use crate::word_acts::{read_act, write_act};
 use crate::{locks, parsing};
-use frame::bytes;
+use frame::bytes::{double_at, number_at};
 use image::header::view_of;
 
 // The access password stands four bytes behind the Reserved offset, which bytes 6 and 7 hold.
-fn standing_to(image: &[u8], given: usize) -> Standing
+#[tactic(auto, unfolding(crate::specs::Locks::standing))]
+fn standing_to(image: &[u8], given: u32) -> Standing
     ensures { result ≡ standing image.now given }
 {
     locks::standing_of(
-        bytes::double_at(image, bytes::number_at(image, 6) + 4),
+        double_at(image, usize::from(number_at(image, 6)) + 4),
         given,
     )
 }
 
 // The kill password stands at the Reserved offset.
-fn kill_standing_to(image: &[u8], given: usize) -> KillStanding
+#[tactic(auto, unfolding(crate::specs::Locks::kill_standing))]
+fn kill_standing_to(image: &[u8], given: u32) -> KillStanding
     ensures { result ≡ kill_standing image.now given }
 {
-    locks::kill_standing_of(bytes::double_at(image, bytes::number_at(image, 6)), given)
+    locks::kill_standing_of(double_at(image, usize::from(number_at(image, 6))), given)
 }
 
 // What a parsed command comes to; of its parameters only a Write's data is looked at again.
-fn verdict(image: &[u8], p: &[u8], command: Parsed) -> Act
+#[tactic(auto, unfolding(crate::specs::Commands::verdict, frame::specs::Bytes::pick))]
+fn verdict(image: &[u8], p: &[u8], command: Parsed) -> Result<Act, Refusal>
     ensures { result ≡ verdict image.now p.now command }
 {
     let v = view_of(image);
     match command {
-        Parsed::Malformed => Act::PlainError(0x17),
-        Parsed::Inventory => if_present(v, 0x15, Act::Notify),
+        Parsed::Malformed => Err(Refusal::Plain(PlainError::NoCommand)),
+        Parsed::Inventory => {
+            admit_present(v, PlainError::NotInventoried)?;
+            Ok(Act::Notify)
+        }
         Parsed::Read {
             password,
             bank,
@@ -44,7 +51,8 @@ fn verdict(image: &[u8], p: &[u8], command: Parsed) -> Act
             count,
         } => {
             let s = standing_to(image, password);
-            admit(v, s, 0x09, read_act(v, s, bank, pointer, count))
+            admit(v, s, PlainError::NotRead)?;
+            Ok(read_act(v, s, bank, pointer, count)?)
         }
         Parsed::Write {
             password,
@@ -53,7 +61,8 @@ fn verdict(image: &[u8], p: &[u8], command: Parsed) -> Act
             count,
         } => {
             let s = standing_to(image, password);
-            admit(v, s, 0x10, write_act(v, s, bank, pointer, count, p))
+            admit(v, s, PlainError::NotWritten)?;
+            Ok(write_act(v, s, bank, pointer, count, p)?)
         }
         Parsed::Lock {
             password,
@@ -61,17 +70,19 @@ fn verdict(image: &[u8], p: &[u8], command: Parsed) -> Act
             action,
         } => {
             let s = standing_to(image, password);
-            admit(v, s, 0x13, lock_act(v, s, mask, action))
+            admit(v, s, PlainError::NotLocked)?;
+            lock_act(v, s, mask, action)
         }
         Parsed::Kill { password } => {
-            let k = kill_standing_to(image, password);
-            if_present(v, 0x12, kill_act(k))
+            admit_present(v, PlainError::NotKilled)?;
+            kill_act(kill_standing_to(image, password))
         }
     }
 }
 
 // For any image, also a bad one, and any parameters.
-pub fn act_of(image: &[u8], code: u8, parameters: &[u8]) -> Act
+#[tactic(auto, unfolding(crate::specs::Commands::act_of))]
+pub fn act_of(image: &[u8], code: u8, parameters: &[u8]) -> Result<Act, Refusal>
     ensures { result ≡ act_of image.now code parameters.now }
 {
     verdict(image, parameters, parsing::parse_command(code, parameters))

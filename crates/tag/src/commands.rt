@@ -6,34 +6,30 @@ pub enum Parsed {
     Malformed,
     Inventory,
     Read {
-        password: usize,
+        password: u32,
         bank: usize,
         pointer: usize,
         count: usize,
     },
     Write {
-        password: usize,
+        password: u32,
         bank: usize,
         pointer: usize,
         count: usize,
     },
     Lock {
-        password: usize,
+        password: u32,
         mask: usize,
         action: usize,
     },
     Kill {
-        password: usize,
+        password: u32,
     },
 }
 
-// What a command comes to: an error, or what is answered and stored.
+// What a command comes to where nothing refuses it: what is answered and stored.
 #[derive(Clone, Copy)]
 pub enum Act {
-    // Code FF and one byte.
-    PlainError(u8),
-    // Code FF, one byte and the tail.
-    TagError(u8),
     // The notification of an inventory.
     Notify,
     // A Read hands out the bytes from `at` on.

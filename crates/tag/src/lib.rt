@@ -4,6 +4,7 @@
 pub mod acts;
 mod admission;
 pub mod commands;
+pub mod errors;
 mod lock_acts;
 pub mod locks;
 mod new_locks;

@@ -1,7 +1,7 @@
 // Lock pairs, and how a tag stands to a password (document 01, "Lock bits").
 ghost use Rattle.std.specs.Prelude.{◌≡◌};
 ghost use Rattle.tag.specs.Bounds.{Paired};
-ghost use Rattle.tag.specs.Locks.{pairs, standing_of, kill_standing_of, is_secured, is_wrong};
+ghost use Rattle.tag.specs.Locks.{pairs, standing_of, kill_standing_of, is_secured};
 
 // The lock bits, a pair for each region.
 #[derive(Clone, Copy)]
@@ -29,6 +29,7 @@ pub enum KillStanding {
     Different,
 }
 
+#[tactic(auto, unfolding(crate::specs::Locks::pairs))]
 pub(crate) fn pairs_of(bits: usize) -> Pairs
     ensures value { result ≡ pairs bits }
     ensures paired { Paired result }
@@ -42,49 +43,35 @@ pub(crate) fn pairs_of(bits: usize) -> Pairs
     }
 }
 
-pub(crate) fn standing_of(stored: usize, given: usize) -> Standing
+#[tactic(auto, using(crate::proofs::Tests::tests), unfolding(crate::specs::Locks::standing_of, frame::specs::Bytes::pick))]
+pub(crate) fn standing_of(stored: u32, given: u32) -> Standing
     ensures { result ≡ standing_of stored given }
 {
-    if given == 0 {
-        if stored == 0 {
-            return Standing::Secured;
-        }
-        return Standing::Open;
-    }
     if given == stored {
-        return Standing::Secured;
+        Standing::Secured
+    } else if given == 0 {
+        Standing::Open
+    } else {
+        Standing::Wrong
     }
-    Standing::Wrong
 }
 
-pub(crate) fn kill_standing_of(stored: usize, given: usize) -> KillStanding
+#[tactic(auto, using(crate::proofs::Tests::tests), unfolding(crate::specs::Locks::kill_standing_of, frame::specs::Bytes::pick))]
+pub(crate) fn kill_standing_of(stored: u32, given: u32) -> KillStanding
     ensures { result ≡ kill_standing_of stored given }
 {
     if stored == 0 {
-        return KillStanding::NoneStored;
+        KillStanding::NoneStored
+    } else if given == stored {
+        KillStanding::Equal
+    } else {
+        KillStanding::Different
     }
-    if given == stored {
-        return KillStanding::Equal;
-    }
-    KillStanding::Different
 }
 
+#[tactic(auto, unfolding(crate::specs::Locks::is_secured))]
 pub(crate) fn is_secured(s: Standing) -> bool
     ensures { result ≡ is_secured s }
 {
-    match s {
-        Standing::Secured => true,
-        Standing::Open => false,
-        Standing::Wrong => false,
-    }
-}
-
-pub(crate) fn is_wrong(s: Standing) -> bool
-    ensures { result ≡ is_wrong s }
-{
-    match s {
-        Standing::Secured => false,
-        Standing::Open => false,
-        Standing::Wrong => true,
-    }
+    matches!(s, Standing::Secured)
 }

@@ -5,6 +5,7 @@ ghost use Rattle.tag.specs.Locks.{bits_of, new_bit, masked_pair, new_pair, new_p
 
 use crate::locks::Pairs;
 
+#[tactic(auto, unfolding(crate::specs::Locks::bits_of))]
 pub(crate) fn bits_of(p: Pairs) -> usize
     requires { Paired p }
     ensures { result ≡ bits_of p }
@@ -12,17 +13,16 @@ pub(crate) fn bits_of(p: Pairs) -> usize
     p.kill * 256 + p.access * 64 + p.epc * 16 + p.tid * 4 + p.user
 }
 
+#[tactic(auto, using(crate::proofs::Tests::tests), unfolding(crate::specs::Locks::new_bit, frame::specs::Bytes::pick))]
 fn new_bit(mask: usize, action: usize, old: usize) -> usize
     requires { (action < 2) × (old < 2) }
     ensures value { result ≡ new_bit mask action old }
     ensures upper_bound { result < 2 }
 {
-    if mask == 1 {
-        return action;
-    }
-    old
+    if mask == 1 { action } else { old }
 }
 
+#[tactic(auto, unfolding(crate::specs::Locks::masked_pair))]
 fn masked_pair(mask: usize, action: usize, old: usize) -> usize
     requires { (action < 4) × (old < 4) }
     ensures value { result ≡ masked_pair mask action old }
@@ -32,17 +32,20 @@ fn masked_pair(mask: usize, action: usize, old: usize) -> usize
 }
 
 // Where no pair refuses, one whose permalock bit is set stays as it is, whatever the Lock asks of it.
+#[tactic(auto, using(crate::proofs::Tests::tests), unfolding(crate::specs::Locks::new_pair, crate::specs::Locks::permalocked, frame::specs::Bytes::pick))]
 fn new_pair(mask: usize, action: usize, old: usize) -> usize
     requires { (action < 4) × (old < 4) }
     ensures value { result ≡ new_pair mask action old }
     ensures upper_bound { result < 4 }
 {
     if old % 2 == 1 {
-        return old;
+        old
+    } else {
+        masked_pair(mask, action, old)
     }
-    masked_pair(mask, action, old)
 }
 
+#[tactic(auto, unfolding(crate::specs::Locks::new_pairs))]
 pub(crate) fn new_pairs(mask: Pairs, action: Pairs, old: Pairs) -> Pairs
     requires { Paired action × Paired old }
     ensures value { result ≡ new_pairs mask action old }
@@ -58,35 +61,25 @@ pub(crate) fn new_pairs(mask: Pairs, action: Pairs, old: Pairs) -> Pairs
 }
 
 // A pair whose permalock bit is set refuses to have that bit cleared, and its password bit changed alone.
+#[tactic(auto, using(crate::proofs::Tests::tests), unfolding(crate::specs::Locks::refuses_pair, crate::specs::Locks::permalocked, frame::specs::Bytes::pick))]
 fn refuses_pair(mask: usize, action: usize, old: usize) -> bool
     ensures { result ≡ refuses_pair mask action old }
 {
-    if old % 2 != 1 {
-        return false;
-    }
-    if mask % 2 == 1 {
-        return action % 2 == 0;
-    }
-    if mask / 2 != 1 {
-        return false;
-    }
-    action / 2 != old / 2
+    let is_changing = if mask % 2 == 1 {
+        action % 2 == 0
+    } else {
+        mask / 2 == 1 && action / 2 != old / 2
+    };
+    old % 2 == 1 && is_changing
 }
 
+#[tactic(auto, using(crate::proofs::Tests::tests), unfolding(crate::specs::Locks::refuses_lock))]
 pub(crate) fn refuses_lock(mask: Pairs, action: Pairs, old: Pairs) -> bool
     ensures { result ≡ refuses_lock mask action old }
 {
-    if refuses_pair(mask.kill, action.kill, old.kill) {
-        return true;
-    }
-    if refuses_pair(mask.access, action.access, old.access) {
-        return true;
-    }
-    if refuses_pair(mask.epc, action.epc, old.epc) {
-        return true;
-    }
-    if refuses_pair(mask.tid, action.tid, old.tid) {
-        return true;
-    }
-    refuses_pair(mask.user, action.user, old.user)
+    refuses_pair(mask.kill, action.kill, old.kill)
+        || refuses_pair(mask.access, action.access, old.access)
+        || refuses_pair(mask.epc, action.epc, old.epc)
+        || refuses_pair(mask.tid, action.tid, old.tid)
+        || refuses_pair(mask.user, action.user, old.user)
 }

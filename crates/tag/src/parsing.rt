@@ -1,101 +1,91 @@
 // A command from its code and parameters alone: here all plain 17 answers fall (document 01, "The commands, checks in order").
-ghost use Rattle.std.specs.Prelude.{◌≡◌, ◌<◌};
+ghost use Rattle.std.specs.Prelude.{◌≡◌};
 ghost use Rattle.tag.specs.Commands.{bank_in, ld_in, aim_right, parse_inventory, parse_read, parse_write, parse_lock, parse_kill, parse};
 
 use crate::commands::Parsed;
-use frame::bytes;
+use frame::bytes::{byte_at, double_at, number_at};
 
-fn bank_number(p: &[u8]) -> usize
-    ensures value { result ≡ bank_in p.now }
-    ensures upper_bound { result < 256 }
+#[tactic(auto, unfolding(crate::specs::Commands::bank_in))]
+fn bank_number(p: &[u8]) -> u8
+    ensures { result ≡ bank_in p.now }
 {
-    bytes::byte_at(p, 4) as usize
+    byte_at(p, 4)
 }
 
+#[tactic(auto, unfolding(crate::specs::Commands::ld_in, crate::specs::Commands::bank_in))]
 fn ld_in(p: &[u8]) -> usize
     ensures { result ≡ ld_in p.now }
 {
-    bank_number(p) * 65536 + bytes::number_at(p, 5)
+    usize::from(bank_number(p)) * 65536 + usize::from(number_at(p, 5))
 }
 
 // Bank and count of a Read or a Write are in their ranges.
+#[tactic(auto, using(crate::proofs::Tests::tests), unfolding(crate::specs::Commands::aim_right, crate::specs::Commands::count_in))]
 fn aims_right(p: &[u8]) -> bool
     ensures { result ≡ aim_right p.now }
 {
-    let count = bytes::number_at(p, 7);
-    if 3 < bank_number(p) {
-        return false;
-    }
-    if count < 1 {
-        return false;
-    }
-    if 32 < count {
-        return false;
-    }
-    true
+    let count = number_at(p, 7);
+    bank_number(p) <= 3 && 1 <= count && count <= 32
 }
 
+#[tactic(auto, using(crate::proofs::Tests::tests), unfolding(crate::specs::Commands::parse_inventory, frame::specs::Bytes::pick))]
 fn parse_inventory(p: &[u8]) -> Parsed
     ensures { result ≡ parse_inventory p.now }
 {
-    if p.len() != 0 {
-        return Parsed::Malformed;
+    if p.is_empty() {
+        Parsed::Inventory
+    } else {
+        Parsed::Malformed
     }
-    Parsed::Inventory
 }
 
+#[tactic(auto, using(crate::proofs::Tests::tests), unfolding(crate::specs::Commands::parse_read, frame::specs::Bytes::pick))]
 fn parse_read(p: &[u8]) -> Parsed
     ensures { result ≡ parse_read p.now }
 {
-    if p.len() != 9 {
-        return Parsed::Malformed;
-    }
-    if !aims_right(p) {
+    if p.len() != 9 || !aims_right(p) {
         return Parsed::Malformed;
     }
     Parsed::Read {
-        password: bytes::double_at(p, 0),
-        bank: bank_number(p),
-        pointer: bytes::number_at(p, 5),
-        count: bytes::number_at(p, 7),
+        password: double_at(p, 0),
+        bank: usize::from(bank_number(p)),
+        pointer: usize::from(number_at(p, 5)),
+        count: usize::from(number_at(p, 7)),
     }
 }
 
+#[tactic(auto, using(crate::proofs::Tests::tests), unfolding(crate::specs::Commands::parse_write, frame::specs::Bytes::pick))]
 fn parse_write(p: &[u8]) -> Parsed
     ensures { result ≡ parse_write p.now }
 {
-    let count = bytes::number_at(p, 7);
-    if p.len() != 9 + 2 * count {
-        return Parsed::Malformed;
-    }
-    if !aims_right(p) {
+    let count = usize::from(number_at(p, 7));
+    if p.len() != 9 + 2 * count || !aims_right(p) {
         return Parsed::Malformed;
     }
     Parsed::Write {
-        password: bytes::double_at(p, 0),
-        bank: bank_number(p),
-        pointer: bytes::number_at(p, 5),
+        password: double_at(p, 0),
+        bank: usize::from(bank_number(p)),
+        pointer: usize::from(number_at(p, 5)),
         count,
     }
 }
 
+#[tactic(auto, using(crate::proofs::Tests::tests), unfolding(crate::specs::Commands::parse_lock, frame::specs::Bytes::pick))]
 fn parse_lock(p: &[u8]) -> Parsed
     ensures { result ≡ parse_lock p.now }
 {
-    if p.len() != 7 {
-        return Parsed::Malformed;
-    }
     let ld = ld_in(p);
-    if 0x100000 <= ld {
+    if p.len() != 7 || 0x100000 <= ld {
         return Parsed::Malformed;
     }
     Parsed::Lock {
-        password: bytes::double_at(p, 0),
+        password: double_at(p, 0),
         mask: ld / 1024,
         action: ld % 1024,
     }
 }
 
+#[tactic(auto, using(crate::proofs::Tests::tests), unfolding(crate::specs::Commands::parse_kill, frame::specs::Bytes::pick))]
 fn parse_kill(p: &[u8]) -> Parsed
     ensures { result ≡ parse_kill p.now }
 {
@@ -103,27 +93,20 @@ fn parse_kill(p: &[u8]) -> Parsed
         return Parsed::Malformed;
     }
     Parsed::Kill {
-        password: bytes::double_at(p, 0),
+        password: double_at(p, 0),
     }
 }
 
+#[tactic(auto, using(crate::proofs::Tests::tests), unfolding(crate::specs::Commands::parse, frame::specs::Bytes::pick))]
 pub fn parse_command(code: u8, parameters: &[u8]) -> Parsed
     ensures { result ≡ parse code parameters.now }
 {
-    if code == 0x22 {
-        return parse_inventory(parameters);
+    match code {
+        0x22 => parse_inventory(parameters),
+        0x39 => parse_read(parameters),
+        0x49 => parse_write(parameters),
+        0x82 => parse_lock(parameters),
+        0x65 => parse_kill(parameters),
+        _ => Parsed::Malformed,
     }
-    if code == 0x39 {
-        return parse_read(parameters);
-    }
-    if code == 0x49 {
-        return parse_write(parameters);
-    }
-    if code == 0x82 {
-        return parse_lock(parameters);
-    }
-    if code == 0x65 {
-        return parse_kill(parameters);
-    }
-    Parsed::Malformed
 }

@@ -5,5 +5,4 @@ use Rattle.tag.proofs.acts.kill_standing_to.Goals as goal
 
 pub returns : goal.returns
 unfolding kill_standing kill_password view bank_at
-returns c =
-    simp (c.kill_standing_of.ensures, c.double_at.ensures.value, c.number_at.ensures.value)
+returns c = simp (c.kill_standing_of.ensures, c.double_at.ensures, c.from.ensures, c.number_at.ensures)

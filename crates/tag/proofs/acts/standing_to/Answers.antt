@@ -5,4 +5,4 @@ use Rattle.tag.proofs.acts.standing_to.Goals as goal
 
 pub returns : goal.returns
 unfolding standing access_password view bank_at
-returns c = simp (c.standing_of.ensures, c.double_at.ensures.value, c.number_at.ensures.value)
+returns c = simp (c.standing_of.ensures, c.double_at.ensures, c.from.ensures, c.number_at.ensures)
