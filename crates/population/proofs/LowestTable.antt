@@ -15,9 +15,11 @@ use Rattle.population.specs.Claims.{place_of_tag, image_of, Candidate, LowestRul
 use Rattle.population.specs.Lowest.{selected_image, selected, selected_at, lowest}
 use Rattle.population.specs.Matching.{matches}
 use Rattle.population.specs.Places.{place_at, inside, image_at}
-use Rattle.population.specs.declared.lowest.Lowest.{Lowest}
-use Rattle.population.specs.declared.lowest.Lowest.TheVariants.{NoTag, Tag}
+use Rattle.std.specs.Prelude.{Option, None, Some}
 use Rattle.population.specs.declared.places.Place.{Place}
+
+abbrev tagged : ℕ → Place → Option (ℕ × Place)
+tagged n p = Some (n, p)
 
 module _ (memory : List ℕ) (places : List Place) (s : List ℕ) (i : ℕ) where
   candidate : selected_at memory s places i ≡ true → Candidate memory places s i
@@ -36,13 +38,13 @@ module _ (memory : List ℕ) (places : List Place) (s : List ℕ) (i : ℕ) wher
 
 module _ (memory : List ℕ) (tags : ℕ) (places : List Place) (s : List ℕ) (start : ℕ) (g : PopulationFacts memory tags places) where
   -- what is claimed of a result
-  record Claimed (r : Lowest) : Type 0 where
-    told : (n : ℕ) (p : Place) → r ≡ Tag n p → LowestRules memory tags places s start n p
-    tells : (n : ℕ) (p : Place) → LowestRules memory tags places s start n p → r ≡ Tag n p
-    none_told : r ≡ NoTag → (i : ℕ) → start ≤ i → i < tags → Candidate memory places s i → ⊥
-    none_tells : ((i : ℕ) → start ≤ i → i < tags → Candidate memory places s i → ⊥) → r ≡ NoTag
+  record Claimed (r : (Option (ℕ × Place))) : Type 0 where
+    told : (n : ℕ) (p : Place) → r ≡ Some (n, p) → LowestRules memory tags places s start n p
+    tells : (n : ℕ) (p : Place) → LowestRules memory tags places s start n p → r ≡ Some (n, p)
+    none_told : r ≡ None → (i : ℕ) → start ≤ i → i < tags → Candidate memory places s i → ⊥
+    none_tells : ((i : ℕ) → start ≤ i → i < tags → Candidate memory places s i → ⊥) → r ≡ None
 
-  no_tag : NonePasses (selected_at memory s places) start tags → Claimed NoTag
+  no_tag : NonePasses (selected_at memory s places) start tags → Claimed None
   no_tag none =
       let no : (i : ℕ) → start ≤ i → i < tags → Candidate memory places s i → ⊥ =
       λ i l m. not_candidate memory places s i (g.within i m) (none i l m)
@@ -77,18 +79,19 @@ module _ (memory : List ℕ) (tags : ℕ) (places : List Place) (s : List ℕ) (
         r.present_and_matching))
         (λ f. omega (arith, leb-false (n + 1) k e, leb-false (k + 1) n f)))
 
-    same_tag : (k : ℕ) (p : Place) → LowestRules memory tags places s start k p → Tag n (place_at places n) ≡ Tag k p
+    same_tag : (k : ℕ) (p : Place) → LowestRules memory tags places s start k p → tagged n (place_at places n) ≡ tagged k p
     unfolding place_at
     same_tag k p r =
         let e : n ≡ k = same_number k p r in
-        ap₂ Tag e (ap (place_of_tag places) e ∙ sym r.at_its_place)
+        ap₂ tagged e (ap (place_of_tag places) e ∙ sym r.at_its_place)
 
-    the_tag : Claimed (Tag n (place_at places n))
+    the_tag : Claimed (Some (n, place_at places n))
     the_tag =
         record {
           told = λ k p e.
-              let a : n ≡ k = cc in
-              let b : place_at places n ≡ p = cc in
+              let both : ◌≡◌ {A = ℕ × Place} (n, place_at places n) (k, p) = cc in
+              let a : n ≡ k = ap (λ (t : ℕ × Place). t.0) both in
+              let b : place_at places n ≡ p = ap (λ (t : ℕ × Place). t.1) both in
               subst (λ (q : Place). LowestRules memory tags places s start k q) b
               (subst (λ (j : ℕ). LowestRules memory tags places s start j (place_at places n)) a rules);
           tells = same_tag;
