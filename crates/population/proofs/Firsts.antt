@@ -9,10 +9,16 @@ use native.Mathlib.Omega.{arith}
 use Rattle.frame.proofs.Picks.{pick_true, pick_false, by_test}
 use Rattle.frame.proofs.Tests.{either}
 use Rattle.frame.specs.Bytes.{pick}
-use Rattle.population.specs.Lowest.{first_tag}
+use Rattle.population.specs.Lowest.{tag_at, first_tag}
 use Rattle.population.specs.Places.{place_at}
 use Rattle.std.specs.Prelude.{Option, None, Some}
 use Rattle.population.specs.declared.places.Place.{Place}
+
+-- the number and the place of a tag are known from it
+pub same_tags : (n k : ℕ) (p q : Place) → tag_at n p ≡ tag_at k q → (n ≡ k) × (p ≡ q)
+same_tags n k p q e =
+    let both : ◌≡◌ {A = ℕ × Place} (n, p) (k, q) = cc in
+    (ap (λ (t : ℕ × Place). t.0) both, ap (λ (t : ℕ × Place). t.1) both)
 
 -- ---- as a loop comes upon it, with tag i in front of it and n tags in all
 

@@ -8,18 +8,15 @@ use mathlib.Core.Path.{◌≡◌, refl, ap, ap₂, sym, subst, ◌∙◌}
 use native.Mathlib.Omega.{arith}
 use Rattle.frame.proofs.Tests.{and_left, and_right, and_both, either}
 use Rattle.frame.specs.Bytes.{byte}
-use Rattle.population.proofs.Firsts.{NonePasses}
+use Rattle.population.proofs.Firsts.{NonePasses, same_tags}
 use Rattle.population.proofs.GoodPopulations.{PopulationFacts, population_facts}
 use Rattle.population.proofs.Selects.{lowest_cases}
 use Rattle.population.specs.Claims.{place_of_tag, image_of, Candidate, LowestRules, LowestTag}
-use Rattle.population.specs.Lowest.{selected_image, selected, selected_at, lowest}
+use Rattle.population.specs.Lowest.{tag_at, selected_image, selected, selected_at, lowest}
 use Rattle.population.specs.Matching.{matches}
 use Rattle.population.specs.Places.{place_at, inside, image_at}
 use Rattle.std.specs.Prelude.{Option, None, Some}
 use Rattle.population.specs.declared.places.Place.{Place}
-
-abbrev tagged : ℕ → Place → Option (ℕ × Place)
-tagged n p = Some (n, p)
 
 module _ (memory : List ℕ) (places : List Place) (s : List ℕ) (i : ℕ) where
   candidate : selected_at memory s places i ≡ true → Candidate memory places s i
@@ -79,21 +76,19 @@ module _ (memory : List ℕ) (tags : ℕ) (places : List Place) (s : List ℕ) (
         r.present_and_matching))
         (λ f. omega (arith, leb-false (n + 1) k e, leb-false (k + 1) n f)))
 
-    same_tag : (k : ℕ) (p : Place) → LowestRules memory tags places s start k p → tagged n (place_at places n) ≡ tagged k p
+    same_tag : (k : ℕ) (p : Place) → LowestRules memory tags places s start k p → tag_at n (place_at places n) ≡ tag_at k p
     unfolding place_at
     same_tag k p r =
         let e : n ≡ k = same_number k p r in
-        ap₂ tagged e (ap (place_of_tag places) e ∙ sym r.at_its_place)
+        ap₂ tag_at e (ap (place_of_tag places) e ∙ sym r.at_its_place)
 
     the_tag : Claimed (Some (n, place_at places n))
     the_tag =
         record {
           told = λ k p e.
-              let both : ◌≡◌ {A = ℕ × Place} (n, place_at places n) (k, p) = cc in
-              let a : n ≡ k = ap (λ (t : ℕ × Place). t.0) both in
-              let b : place_at places n ≡ p = ap (λ (t : ℕ × Place). t.1) both in
-              subst (λ (q : Place). LowestRules memory tags places s start k q) b
-              (subst (λ (j : ℕ). LowestRules memory tags places s start j (place_at places n)) a rules);
+              let both : (n ≡ k) × (place_at places n ≡ p) = same_tags n k (place_at places n) p e in
+              subst (λ (q : Place). LowestRules memory tags places s start k q) both.1
+              (subst (λ (j : ℕ). LowestRules memory tags places s start j (place_at places n)) both.0 rules);
           tells = same_tag;
           none_told = λ e. let z : ◌≡◌ {A = ℕ} 0 1 = cc in absurd (omega arith);
           none_tells = λ h. absurd (h n l m (candidate memory places s n passes));

@@ -15,6 +15,13 @@ selected memory s p = inside memory p && selected_image s (image_at memory p)
 unfoldable pub selected_at : List ℕ → List ℕ → List Place → ℕ → Bool
 selected_at memory s places i = selected memory s (place_at places i)
 
+-- no tag, and tag n at its place
+abbrev pub no_tag : Option (ℕ × Place)
+no_tag = None
+
+abbrev pub tag_at : ℕ → Place → Option (ℕ × Place)
+tag_at n p = Some (n, p)
+
 -- the first of the k tags from number i on that passes a test
 unfoldable pub first_tag : (ℕ → Bool) → List Place → ℕ → ℕ → Option (ℕ × Place)
 first_tag test places i zero = None
