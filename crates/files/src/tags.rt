@@ -1,17 +1,16 @@
 // The tags' files, read into one memory, one behind the other.
-ghost use Rattle.std.specs.Prelude.{◌≡◌, ◌<◌, length};
+ghost use Rattle.std.specs.Prelude.{◌≡◌, ◌<◌, length, IfOk};
 ghost use Rattle.frame.specs.Frames.{sum};
 ghost use Rattle.io.specs.Counts.{IsPrefixLen};
 
-use crate::read_file;
+use crate::{ReadError, read_file};
 use std::rt::Files;
 
-// How many tags there are, how many bytes of the memory their files have taken, and whether no read failed.
+// How many tags there are, and how many bytes of the memory their files have taken.
 #[derive(Clone, Copy)]
 pub struct Tags {
     pub count: usize,
     pub length: usize,
-    pub readable: bool,
 }
 
 // A file is read no further than this, so that the seventeen have room behind one another; it is more than one may have.
@@ -27,41 +26,40 @@ fn name_of(number: usize) -> [u8; 10]
     name
 }
 
-fn read_into(files: &impl Files, memory: &mut [u8], sizes: &mut [u64]) -> Tags
+fn read_into(files: &impl Files, memory: &mut [u8], sizes: &mut [u64]) -> Result<Tags, ReadError>
     requires memory_len { length memory.old ≡ 65536 }
     requires sizes_len { length sizes.old ≡ 17 }
-    ensures count_in_sizes { IsPrefixLen result.count sizes.new }
-    ensures length_in_memory { IsPrefixLen result.length memory.new }
-    ensures length_is_sum { result.length ≡ sum sizes.new }
+    ensures count_in_sizes { IfOk result (λ tags. IsPrefixLen tags.count sizes.new) }
+    ensures length_in_memory { IfOk result (λ tags. IsPrefixLen tags.length memory.new) }
+    ensures length_is_sum { IfOk result (λ tags. tags.length ≡ sum sizes.new) }
 {
     let mut count = 0;
     let mut at = 0;
-    let mut readable = true;
-    let mut i = 0;
-    while i < 17 {
-        let name = name_of(i);
-        let read = read_file(files, &name, &mut memory[at..at + ROOM]);
-        sizes[i] = read.length as u64;
-        at += read.length;
-        readable = readable && read.readable;
-        i += 1;
-        if read.opened {
-            count = i;
-        }
+    for i in 0..17 {
+        let size = match read_file(files, &name_of(i), &mut memory[at..at + ROOM]) {
+            Ok(size) => {
+                count = i + 1;
+                size
+            }
+            Err(ReadError::NotOpened) => 0,
+            Err(ReadError::Unreadable) => return Err(ReadError::Unreadable),
+        };
+        sizes[i] = size as u64;
+        at += size;
     }
-    Tags {
-        count,
-        length: at,
-        readable,
-    }
+    Ok(Tags { count, length: at })
 }
 
 // "The number of tags is one more than the highest number from 00 to 16 whose file can be opened": a seventeenth is looked for, so that it is seen that they
-// are too many. A file below that can't be opened counts as empty.
-pub fn read_tags(files: &impl Files, memory: &mut [u8; 65536], sizes: &mut [u64; 17]) -> Tags
-    ensures count_in_sizes { IsPrefixLen result.count sizes.new }
-    ensures length_in_memory { IsPrefixLen result.length memory.new }
-    ensures length_is_sum { result.length ≡ sum sizes.new }
+// are too many. A file below that can't be opened counts as empty; one that can't be read to its end is an error.
+pub fn read_tags(
+    files: &impl Files,
+    memory: &mut [u8; 65536],
+    sizes: &mut [u64; 17],
+) -> Result<Tags, ReadError>
+    ensures count_in_sizes { IfOk result (λ tags. IsPrefixLen tags.count sizes.new) }
+    ensures length_in_memory { IfOk result (λ tags. IsPrefixLen tags.length memory.new) }
+    ensures length_is_sum { IfOk result (λ tags. tags.length ≡ sum sizes.new) }
 {
     read_into(files, memory, sizes)
 }

@@ -49,11 +49,11 @@ fn is_mask_found(image: &[u8], selection: &[u8]) -> bool
         return true;
     }
     let bank = usize::from(byte_at(selection, 0) % 4);
-    let pointer = double_at(selection, 1);
-    if 16 * number_at(image, 4 + 4 * bank) < pointer + n {
+    let pointer = double_at(selection, 1) as usize;
+    if 16 * usize::from(number_at(image, 4 + 4 * bank)) < pointer + n {
         return false;
     }
-    let at = 8 * number_at(image, 6 + 4 * bank) + pointer;
+    let at = 8 * usize::from(number_at(image, 6 + 4 * bank)) + pointer;
     is_same_bits(image, at, selection, n)
 }
 

@@ -5,6 +5,3 @@ use Rattle.files.proofs.tags.read_into.Given as goal
 
 abbrev pub invariant-loop-i : goal.invariant-loop-i
 invariant-loop-i g l = FilesRead l.initial.memory l.initial.sizes l.memory l.sizes l.count l.at l.i
-
-abbrev pub decreases-loop-i : goal.decreases-loop-i
-decreases-loop-i g l = 17 - l.i
