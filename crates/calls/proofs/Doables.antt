@@ -13,11 +13,10 @@ use Rattle.machine.specs.Machine.{State, call, Step, waiting, decide, carried_ou
 use Rattle.machine.specs.declared.deciding.Aimed.{Aimed}
 use Rattle.machine.specs.declared.deciding.Job.{Job}
 use Rattle.population.proofs.GoodPopulations.{population_facts}
-use Rattle.population.specs.Lowest.{lowest}
-use Rattle.population.specs.declared.lowest.Lowest.TheVariants.{Tag}
+use Rattle.population.specs.Lowest.{lowest, tag_at}
 
 module _ (input : List ℕ) (s : State) where
-  aimable : Tested input s → (start : ℕ) (a : Aimed) → lowest s.memory s.tags s.places s.selection start ≡ Tag a.number a.place
+  aimable : Tested input s → (start : ℕ) (a : Aimed) → lowest s.memory s.tags s.places s.selection start ≡ tag_at a.number a.place
       → a.first + a.pl ≤ length input → Aimable input s.memory s.output a
   aimable t start a e there =
       let tag = found_tag input s t start a.number a.place e in

@@ -1,6 +1,6 @@
 -- Each job, done as the code does it, is the machine's.
-use Prim.Native.Nat.{ℕ, ◌+◌, ◌-◌, ◌/◌, ◌≤◌, ◌<◌}
-use borrow.Author.Tests.{le-leb, eqb-true}
+use Prim.Native.Nat.{ℕ, ◌+◌, ◌-◌, ◌≤◌, ◌<◌}
+use borrow.Author.Tests.{le-leb}
 use lib.Dec.{eqb}
 use lib.ListN.{length, take, drop, set}
 use lib.Seq.{sets, take_all}
@@ -13,7 +13,7 @@ use Rattle.reader.specs.Readers.{reader_of}
 use Rattle.reader.specs.declared.outcome.Outcome.{Outcome}
 use Rattle.reader.specs.declared.outcome.Outcome.TheVariants.{Answered, Dropped}
 use Rattle.machine.specs.Lent.{selection_in}
-use Rattle.calls.specs.Calls.{step_of, Lent, lent_of, with_selected, lent_after, Ready, Framed, Aimable, Doable, AimDone, Told, Selected}
+use Rattle.calls.specs.Calls.{called_of, step_of, Lent, lent_of, with_selected, lent_after, Ready, Framed, Aimable, Doable, AimDone, Told, Selected}
 use Rattle.machine.specs.Machine.{State, state_of, parameters_at, unchanged, dropped, told, plain_error, select_taken, selecting, missed, next_after, image_for, act_for, acted, aimed, carried_out, counted}
 use Rattle.calls.specs.declared.calling.Called.{Called}
 use Rattle.machine.specs.declared.deciding.Aimed.{Aimed}
@@ -27,15 +27,15 @@ use Rattle.execution.specs.declared.execute.Executed.TheVariants.{Refused, Good,
 use Rattle.frame.proofs.Copies.{copied_is}
 use Rattle.frame.proofs.Picks.{pick_true, pick_false}
 use Rattle.frame.proofs.Stores.{part_sets}
-use Rattle.frame.proofs.Tests.{either, all_at}
-use Rattle.frame.specs.Bytes.{pick, byte, part}
+use Rattle.frame.proofs.Tests.{either}
+use Rattle.frame.specs.Bytes.{pick, part}
 use Rattle.frame.specs.Closing.{Closing}
 use Rattle.frame.specs.Copying.{copied}
 use Rattle.frame.specs.Frames.{frame_of, frame_length}
 use Rattle.frame.specs.declared.finding.Reason.{Reason}
 use Rattle.population.specs.Executing.{ExecutionAt, replaced}
 use Rattle.population.specs.Places.{image_at}
-use Rattle.population.specs.Selections.{mask_bits, mask_bytes, taken}
+use Rattle.population.specs.Selections.{taken}
 use Rattle.population.specs.declared.places.Place.{Place}
 use Rattle.reader.specs.Tallies.{with_good, with_error, with_dropped}
 use Rattle.reader.specs.declared.state.Reader.{Reader}
@@ -52,11 +52,11 @@ byte_closed output room code b after result = closed_round 0x01 code (b ∷ []) 
 
 pub tells : (frame output output_left : List ℕ) (n : ℕ) → FrameWritten frame output output_left n
     → (behind count : ℕ) (t u : Tally) → t ≡ u
-    → Told frame output output_left (reader_of behind u) count record { outcome = Answered; length = n; reader = reader_of behind t; next = 16; count = count }
+    → Told frame output output_left (reader_of behind u) count (called_of Answered n (reader_of behind t) 16 count)
 tells frame output output_left n f behind count t u e =
     record {
       output_is = f.output_is;
-      result_is = ap₂ (λ (k : ℕ) (v : Tally). record { outcome = Answered; length = k; reader = reader_of behind v; next = 16; count = count }) f.length_is e;
+      result_is = ap₂ (λ (k : ℕ) (v : Tally). (called_of Answered k (reader_of behind v) 16 count)) f.length_is e;
     }
 
 -- ---- Set Select
@@ -71,13 +71,13 @@ module _ (bytes output p : List ℕ) (reader : Reader) (count behind : ℕ) (out
   unfolding with_selected
   not_taken h r t =
       record {
-        selection_is = ap (λ (x : Called). selection_in bytes x.count) t.result_is ∙ sym (simp (h, pick_false));
-        lent_is = ap (λ (x : Called). lent_of bytes x.count) t.result_is ∙ sym (simp (h, pick_false));
+        selection_is = ap (λ (x : Called). selection_in bytes x.state.selected) t.result_is ∙ sym (simp (h, pick_false));
+        lent_is = ap (λ (x : Called). lent_of bytes x.state.selected) t.result_is ∙ sym (simp (h, pick_false));
         output_is = t.output_is ∙ sym (simp (h, pick_false));
         outcome_is = ap (λ (x : Called). x.outcome) t.result_is;
         length_is = ap (λ (x : Called). x.length) t.result_is ∙ sym (simp (h, pick_false));
-        reader_is = ap (λ (x : Called). x.reader) t.result_is ∙ sym (simp (h, pick_false));
-        next_is = ap (λ (x : Called). x.next) t.result_is;
+        reader_is = ap (λ (x : Called). x.state.reader) t.result_is ∙ sym (simp (h, pick_false));
+        next_is = ap (λ (x : Called). x.state.next) t.result_is;
       }
 
   -- the parameters stand in front of the lent bytes
@@ -87,25 +87,15 @@ module _ (bytes output p : List ℕ) (reader : Reader) (count behind : ℕ) (out
       let whole : part p 0 (length p) ≡ p = take_all (length p) p (omega arith) in
       copied_is p 0 (length p) bytes 0 (omega arith) (omega arith) ∙ ap (λ (l : List ℕ). sets bytes 0 l) whole
 
-  -- the mask length b, one byte, tells how many parameters there are
-  module _ (h : taken p ≡ true) (b : ℕ) (bits : b ≡ byte p 5) where
-    pub mask_tells : 7 + (b + 7) / 8 ≡ length p
-    unfolding taken mask_bytes mask_bits
-    mask_tells =
-        let whole : length p ≡ 7 + (byte p 5 + 7) / 8 = eqb-true _ _ (all_at _ 4 h) in
-        simp bits (sym whole)
-
-    pub is_taken : b < 256 → length bytes ≡ 39 → (bytes_left : List ℕ) → bytes_left ≡ copied p 0 (7 + (b + 7) / 8) bytes 0
+  -- as many as there are
+  module _ (h : taken p ≡ true) (few : length p ≤ 39) where
+    pub is_taken : length bytes ≡ 39 → (bytes_left : List ℕ) → bytes_left ≡ copied p 0 (length p) bytes 0
         → (n : ℕ) → FrameWritten select_taken output output_left n → (t : Tally) → t ≡ with_good reader.tally
-        → Selected bytes output p reader count behind bytes_left output_left
-        record { outcome = Answered; length = n; reader = reader_of behind t; next = 16; count = 7 + (b + 7) / 8 }
+        → Selected bytes output p reader count behind bytes_left output_left (called_of Answered n (reader_of behind t) 16 (length p))
     unfolding with_selected
-    is_taken small room bytes_left left n f t counts =
-        let few : length p ≤ 39 = omega (arith, mask_tells) in
-        let lent : lent_of bytes_left (7 + (b + 7) / 8) ≡ lent_of (sets bytes 0 p) (length p) =
-        ap (λ (l : List ℕ). lent_of l (7 + (b + 7) / 8)) left
-        ∙ ap (λ (k : ℕ). lent_of (copied p 0 k bytes 0) k) mask_tells
-        ∙ ap (λ (l : List ℕ). lent_of l (length p)) (put_in_front few room)
+    is_taken room bytes_left left n f t counts =
+        let lent : lent_of bytes_left (length p) ≡ lent_of (sets bytes 0 p) (length p) =
+        ap (λ (l : List ℕ). lent_of l (length p)) (left ∙ put_in_front few room)
         in
         record {
           selection_is = ap (λ (l : Lent). selection_in l.bytes l.count) lent ∙ in_front bytes p few room ∙ sym (simp (h, pick_true));
@@ -143,14 +133,14 @@ module _ (memory output p : List ℕ) (a : Aimed) (reader : Reader) (next count 
   Done r = AimDone memory output p a reader next count act memory_left output_left r
 
   pub aims_good : (n : ℕ) (t : Tally) → executed ≡ Good n → t ≡ with_good reader.tally
-      → Done record { outcome = Answered; length = n; reader = reader_of a.behind t; next = next; count = count }
+      → Done (called_of Answered n (reader_of a.behind t) next count)
   unfolding counted
   aims_good n t kind counts =
       let known : (is_error act ≡ false) × (n ≡ length (answer image act)) = told_good act _ n (sym kind ∙ done.result_is) in
       record { memory_is = memory_done; output_is = done.output_is; result_is = simp (known.0, known.1, counts, pick_false) }
 
   pub aims_error : (n : ℕ) (t : Tally) → executed ≡ Error n → t ≡ with_error reader.tally
-      → Done record { outcome = Answered; length = n; reader = reader_of a.behind t; next = 16; count = count }
+      → Done (called_of Answered n (reader_of a.behind t) 16 count)
   unfolding counted
   aims_error n t kind counts =
       let known : (is_error act ≡ true) × (n ≡ length (answer image act)) = told_error act _ n (sym kind ∙ done.result_is) in
@@ -166,12 +156,12 @@ module _ (input memory output bytes : List ℕ) (reader : Reader) (next count : 
   s = state_of memory places tags (selection_in bytes count) output reader next
 
   pub does_stay : (job : Job) (o : Outcome) → job ≡ Stay o
-      → step_of record { outcome = o; length = 0; reader = reader; next = next; count = count } memory places tags bytes output ≡ carried_out input s job
+      → step_of (called_of o 0 reader next count) memory places tags bytes output ≡ carried_out input s job
   unfolding carried_out unchanged
   does_stay job o e = sym (ap (carried_out input s) e)
 
   pub does_drop : (job : Job) (r : Reason) → job ≡ DropByte r → (t : Tally) → t ≡ with_dropped r reader.tally
-      → step_of record { outcome = Dropped r; length = 0; reader = reader_of (reader.cursor + 1) t; next = next; count = count } memory places tags bytes output
+      → step_of (called_of (Dropped r) 0 (reader_of (reader.cursor + 1) t) next count) memory places tags bytes output
       ≡ carried_out input s job
   unfolding carried_out dropped
   does_drop job r e t counts = simp counts (sym (ap (carried_out input s) e))
@@ -223,24 +213,24 @@ module _ (input : List ℕ) (cursor : ℕ) (l : Lent) (job : Job) where
 
   pub lends_miss : (error pl : ℕ) → job ≡ Miss error pl → (frame output output_left : List ℕ) (reader : Reader) (r : Called)
       → Told frame output output_left reader l.count r
-      → lent_of l.bytes r.count ≡ lent_after input cursor l job
+      → lent_of l.bytes r.state.selected ≡ lent_after input cursor l job
   unfolding lent_after
-  lends_miss error pl e frame output output_left reader r t = ap (λ (x : Called). lent_of l.bytes x.count) t.result_is ∙ lends (Miss error pl) e
+  lends_miss error pl e frame output output_left reader r t = ap (λ (x : Called). lent_of l.bytes x.state.selected) t.result_is ∙ lends (Miss error pl) e
 
   pub lends_select : (pl : ℕ) → job ≡ Select pl → (p : List ℕ) → p ≡ parameters_at input cursor pl
       → (output : List ℕ) (reader : Reader) (behind : ℕ) (bytes_left output_left : List ℕ) (r : Called)
       → Selected l.bytes output p reader l.count behind bytes_left output_left r
-      → lent_of bytes_left r.count ≡ lent_after input cursor l job
+      → lent_of bytes_left r.state.selected ≡ lent_after input cursor l job
   unfolding lent_after
   lends_select pl e p same output reader behind bytes_left output_left r t =
       t.lent_is ∙ ap (λ (q : List ℕ). with_selected q l) same ∙ lends (Select pl) e
 
   pub lends_aim : (a : Aimed) → job ≡ Aim a → (memory output p : List ℕ) (reader : Reader) (n : ℕ) (act : Verdict) (memory_left output_left : List ℕ) (r : Called)
       → AimDone memory output p a reader n l.count act memory_left output_left r
-      → lent_of l.bytes r.count ≡ lent_after input cursor l job
+      → lent_of l.bytes r.state.selected ≡ lent_after input cursor l job
   unfolding lent_after
   lends_aim a e memory output p reader n act memory_left output_left r t =
-      ap (λ (x : Called). lent_of l.bytes x.count) t.result_is ∙ lends (Aim a) e
+      ap (λ (x : Called). lent_of l.bytes x.state.selected) t.result_is ∙ lends (Aim a) e
 
 -- ---- what was shown of each job
 

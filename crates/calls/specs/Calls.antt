@@ -17,16 +17,22 @@ use Rattle.population.specs.declared.places.Place.{Place}
 use Rattle.reader.specs.Tallies.{with_good, with_error}
 use Rattle.reader.specs.declared.state.Reader.{Reader}
 use Rattle.reader.specs.Readers.{reader_of}
+use Rattle.reader.specs.declared.outcome.Outcome.{Outcome}
 use Rattle.reader.specs.declared.outcome.Outcome.TheVariants.{Answered}
 use Rattle.tag.specs.Answers.{answer, changed, is_error}
 use Rattle.tag.specs.Errors.{Verdict}
+
+-- what a call hands back by value
+abbrev pub called_of : Outcome → ℕ → Reader → ℕ → ℕ → Called
+called_of outcome length reader next count =
+    record { outcome = outcome; length = length; state = record { reader = reader; next = next; selected = count } }
 
 abbrev pub step_of : Called → List ℕ → List Place → ℕ → List ℕ → List ℕ → Step
 step_of r memory places tags selection output =
     record {
       outcome = r.outcome;
       length = r.length;
-      next = state_of memory places tags (selection_in selection r.count) output r.reader r.next;
+      next = state_of memory places tags (selection_in selection r.state.selected) output r.state.reader r.state.next;
     }
 
 -- ---- all 39 lent bytes, and how many of them are the selection
@@ -91,25 +97,20 @@ pub record AimDone (memory output p : List ℕ) (a : Aimed) (reader : Reader) (n
   pub memory_is : memory_left ≡ replaced memory a.place (changed (image_at memory a.place) p act)
   pub output_is : output_left ≡ written (answer (image_at memory a.place) act) output
   pub result_is : r
-      ≡ record {
-        outcome = Answered;
-        length = length (answer (image_at memory a.place) act);
-        reader = reader_of a.behind (counted act reader.tally);
-        next = pick (is_error act) 16 next;
-        count = count;
-      }
+      ≡ called_of Answered (length (answer (image_at memory a.place) act)) (reader_of a.behind (counted act reader.tally)) (pick (is_error act) 16 next)
+      count
 
 -- an answer of the reader itself, with no tag left to hand out
 pub record Told (frame output output_left : List ℕ) (reader : Reader) (count : ℕ) (r : Called) : Type 0 where
   pub output_is : output_left ≡ written frame output
-  pub result_is : r ≡ record { outcome = Answered; length = length frame; reader = reader; next = 16; count = count }
+  pub result_is : r ≡ called_of Answered (length frame) reader 16 count
 
 -- Set Select: the selection becomes the parameters `p`, where they are such as it takes
 pub record Selected (bytes output p : List ℕ) (reader : Reader) (count behind : ℕ) (bytes_left output_left : List ℕ) (r : Called) : Type 0 where
-  pub selection_is : selection_in bytes_left r.count ≡ pick (taken p) p (selection_in bytes count)
-  pub lent_is : lent_of bytes_left r.count ≡ with_selected p (lent_of bytes count)
+  pub selection_is : selection_in bytes_left r.state.selected ≡ pick (taken p) p (selection_in bytes count)
+  pub lent_is : lent_of bytes_left r.state.selected ≡ with_selected p (lent_of bytes count)
   pub output_is : output_left ≡ written (pick (taken p) select_taken (plain_error 0x17)) output
   pub outcome_is : r.outcome ≡ Answered
   pub length_is : r.length ≡ length (pick (taken p) select_taken (plain_error 0x17))
-  pub reader_is : r.reader ≡ reader_of behind (pick (taken p) (with_good reader.tally) (with_error reader.tally))
-  pub next_is : r.next ≡ 16
+  pub reader_is : r.state.reader ≡ reader_of behind (pick (taken p) (with_good reader.tally) (with_error reader.tally))
+  pub next_is : r.state.next ≡ 16

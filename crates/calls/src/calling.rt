@@ -14,26 +14,22 @@ ghost use Rattle.population.specs.Places.{image_at};
 ghost use Rattle.population.specs.declared.places.Place.{Place as PlaceOf};
 
 use execution::execute::Executed;
-use frame::bytes::byte_at;
 use frame::closing::close;
 use frame::copying::copy;
 use frame::layout;
 use machine::deciding::{Aimed, Job, decide};
 use population::executing::execute_at;
-use population::places::Place;
+use population::places::Population;
 use population::selection::is_taken;
 use reader::outcome::Outcome;
-use reader::state::Reader;
+use reader::state::{BenchState, Reader};
 
-// What a call hands back beside memory, output and selection: how it ended, the length of the frame written, the reader's state, the number of the first tag
-// that may still be handed out, and how many bytes the selection has.
+// What a call hands back beside memory, output and selection: how it ended, the length of the frame written, and the state for the next one.
 #[derive(Clone, Copy)]
 pub struct Called {
     pub outcome: Outcome,
     pub length: usize,
-    pub reader: Reader,
-    pub next: usize,
-    pub count: usize,
+    pub state: BenchState,
 }
 
 // A frame with one parameter byte.
@@ -46,21 +42,23 @@ fn put_byte(output: &mut [u8], code: u8, b: u8) -> usize
 }
 
 // No tag is there for the command.
-fn miss(output: &mut [u8], reader: Reader, count: usize, error: u8, behind: usize) -> Called
+fn miss(output: &mut [u8], state: BenchState, error: u8, behind: usize) -> Called
     requires { 136 ≤ length output.old }
-    ensures { Told (plain_error error) output.old output.new (reader_of behind (with_error reader.tally)) count result }
+    ensures { Told (plain_error error) output.old output.new (reader_of behind (with_error state.reader.tally)) state.selected result }
 {
-    let tally = reader.tally;
     let length = put_byte(output, 0xff, error);
+    let reader = Reader {
+        cursor: behind,
+        tally: state.reader.tally.with_error(),
+    };
     Called {
         outcome: Outcome::Answered,
         length,
-        reader: Reader {
-            cursor: behind,
-            tally: tally.with_error(),
+        state: BenchState {
+            reader,
+            next: 16,
+            selected: state.selected,
         },
-        next: 16,
-        count,
     }
 }
 
@@ -69,31 +67,30 @@ fn select(
     output: &mut [u8],
     selection: &mut [u8; 39],
     parameters: &[u8],
-    reader: Reader,
-    count: usize,
+    state: BenchState,
     behind: usize,
 ) -> Called
     requires { 136 ≤ length output.old }
-    ensures { Selected selection.old output.old parameters.now reader count behind selection.new output.new result }
+    ensures { Selected selection.old output.old parameters.now state.reader state.selected behind selection.new output.new result }
 {
     if !is_taken(parameters) {
-        return miss(output, reader, count, 0x17, behind);
+        return miss(output, state, 0x17, behind);
     }
-    let tally = reader.tally;
-    // The mask length is one byte, and tells how many parameters there are: 39 at most.
-    let bits = byte_at(parameters, 5) as usize;
-    let taken = 7 + (bits + 7) / 8;
     let length = put_byte(output, 0x0c, 0);
-    copy(parameters, 0, taken, selection, 0);
+    // The mask length is one byte, so that no more than 39 parameters are taken.
+    copy(parameters, 0, parameters.len(), selection, 0);
+    let reader = Reader {
+        cursor: behind,
+        tally: state.reader.tally.with_good(),
+    };
     Called {
         outcome: Outcome::Answered,
         length,
-        reader: Reader {
-            cursor: behind,
-            tally: tally.with_good(),
+        state: BenchState {
+            reader,
+            next: 16,
+            selected: parameters.len(),
         },
-        next: 16,
-        count: taken,
     }
 }
 
@@ -108,51 +105,41 @@ fn next_after(code: u8, number: usize) -> usize
     16
 }
 
-// The one place where a command is carried out at a tag; it is counted by its answer.
+// The one place where a command is carried out at a tag; it is counted by its answer. Where that is no error the tags from `state.next` on are still to hand out.
 fn aim(
     memory: &mut [u8],
     output: &mut [u8],
     parameters: &[u8],
     aimed: Aimed,
-    reader: Reader,
-    next: usize,
-    count: usize,
+    state: BenchState,
 ) -> Called
     requires { Ready memory.old output.old aimed.place }
-    ensures { AimDone memory.old output.old parameters.now aimed reader next count
+    ensures { AimDone memory.old output.old parameters.now aimed state.reader state.next state.selected
         (act_of (image_at memory.old aimed.place) aimed.code parameters.now) memory.new output.new result }
 {
-    let place = aimed.place;
-    let tally = reader.tally;
-    let executed = execute_at(memory, place, output, aimed.code, parameters);
-    match executed {
-        Executed::Good(length) => Called {
-            outcome: Outcome::Answered,
-            length,
+    let tally = state.reader.tally;
+    let (length, tally, next) = match execute_at(
+        memory,
+        aimed.place,
+        output,
+        aimed.code,
+        parameters,
+    ) {
+        Executed::Good(length) => (length, tally.with_good(), state.next),
+        Executed::Error(length) => (length, tally.with_error(), 16),
+        // The population and the output were tested before.
+        Executed::Refused => unreachable!(),
+    };
+    Called {
+        outcome: Outcome::Answered,
+        length,
+        state: BenchState {
             reader: Reader {
                 cursor: aimed.behind,
-                tally: tally.with_good(),
+                tally,
             },
             next,
-            count,
-        },
-        Executed::Error(length) => Called {
-            outcome: Outcome::Answered,
-            length,
-            reader: Reader {
-                cursor: aimed.behind,
-                tally: tally.with_error(),
-            },
-            next: 16,
-            count,
-        },
-        // It cannot come to that: the population and the output were tested before.
-        Executed::Refused => Called {
-            outcome: Outcome::BadImage,
-            length: 0,
-            reader,
-            next,
-            count,
+            selected: state.selected,
         },
     }
 }
@@ -163,90 +150,79 @@ fn carry_out(
     memory: &mut [u8],
     output: &mut [u8],
     selection: &mut [u8; 39],
-    reader: Reader,
-    next: usize,
-    count: usize,
+    state: BenchState,
     job: Job,
 ) -> Called
-    requires { Doable input.now memory.old output.old reader job }
+    requires { Doable input.now memory.old output.old state.reader job }
     ensures { ((places : List PlaceOf) (tags : ℕ)
         → step_of result memory.new places tags selection.new output.new
         ≡ carried_out input.now
-        (state_of memory.old places tags (selection_in selection.old count) output.old reader next) job)
-        × (lent_of selection.new result.count
-        ≡ lent_after input.now reader.cursor (lent_of selection.old count) job) }
+        (state_of memory.old places tags (selection_in selection.old state.selected) output.old state.reader state.next) job)
+        × (lent_of selection.new result.state.selected
+        ≡ lent_after input.now state.reader.cursor (lent_of selection.old state.selected) job) }
 {
-    let cursor = reader.cursor;
-    let tally = reader.tally;
+    let cursor = state.reader.cursor;
     match job {
         Job::Stay(outcome) => Called {
             outcome,
             length: 0,
-            reader,
-            next,
-            count,
+            state,
         },
-        Job::DropByte(reason) => Called {
-            outcome: Outcome::Dropped(reason),
-            length: 0,
-            reader: Reader {
+        Job::DropByte(reason) => {
+            let reader = Reader {
                 cursor: cursor + 1,
-                tally: tally.with_dropped(reason),
-            },
-            next,
-            count,
-        },
+                tally: state.reader.tally.with_dropped(reason),
+            };
+            Called {
+                outcome: Outcome::Dropped(reason),
+                length: 0,
+                state: BenchState { reader, ..state },
+            }
+        }
         Job::Select(pl) => {
             let first = cursor + layout::PARAMETERS;
+            let parameters = &input[first..first + pl];
             select(
                 output,
                 selection,
-                &input[first..first + pl],
-                reader,
-                count,
+                parameters,
+                state,
                 cursor + layout::AROUND + pl,
             )
         }
-        Job::Miss { error, pl } => miss(output, reader, count, error, cursor + layout::AROUND + pl),
+        Job::Miss { error, pl } => miss(output, state, error, cursor + layout::AROUND + pl),
         Job::Aim(aimed) => {
-            let first = aimed.first;
-            let last = first + aimed.pl;
+            let parameters = &input[aimed.first..aimed.first + aimed.pl];
+            let next = next_after(aimed.code, aimed.number);
             aim(
                 memory,
                 output,
-                &input[first..last],
+                parameters,
                 aimed,
-                reader,
-                next_after(aimed.code, aimed.number),
-                count,
+                BenchState { next, ..state },
             )
         }
     }
 }
 
-// For any input, memory, output, selection, places and reader.
+// For any input, memory, output, selection, population and state.
 pub fn call(
     input: &[u8],
     memory: &mut [u8],
     output: &mut [u8],
     selection: &mut [u8; 39],
-    places: [Place; 16],
-    tags: usize,
-    reader: Reader,
-    next: usize,
-    count: usize,
+    population: &Population,
+    state: BenchState,
     full: bool,
 ) -> Called
-    ensures { (step_of result memory.new places tags selection.new output.new
+    ensures { (step_of result memory.new population.now.places population.now.tags selection.new output.new
         ≡ step_unless full (a_call input.now)
-        (state_of memory.old places tags (selection_in selection.old count) output.old reader next))
-        × (lent_of selection.new result.count
+        (state_of memory.old population.now.places population.now.tags (selection_in selection.old state.selected) output.old state.reader state.next))
+        × (lent_of selection.new result.state.selected
         ≡ lent_by full input.now
-        (state_of memory.old places tags (selection_in selection.old count) output.old reader next)
-        (lent_of selection.old count)) }
+        (state_of memory.old population.now.places population.now.tags (selection_in selection.old state.selected) output.old state.reader state.next)
+        (lent_of selection.old state.selected)) }
 {
-    let job = decide(
-        input, memory, output, selection, places, tags, reader, next, count, full,
-    );
-    carry_out(input, memory, output, selection, reader, next, count, job)
+    let job = decide(input, memory, output, selection, population, state, full);
+    carry_out(input, memory, output, selection, state, job)
 }

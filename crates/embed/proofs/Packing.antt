@@ -14,9 +14,10 @@ use Rattle.calls.specs.Calls.{Lent, lent_of, lent_by}
 use Rattle.machine.specs.Machine.{State, state_of, Step}
 use Rattle.embed.specs.Packed.{packed, counts_in, any_above, reader_at, reader_in, held_in, records_fit, Left, left_by, told, state_in, listed_in, stepped, called_with, called}
 use Rattle.embed.specs.Placed.{tags_in, used_of, places_fit, placed}
-use Rattle.embed.specs.declared.Unpacked.{Unpacked}
-use Rattle.embed.specs.declared.Unpacked.TheVariants.{Fit, OutOfRange}
-use Rattle.failures.specs.Listing.{is_list_full, step_beside, failure_beside, Beside}
+use Rattle.std.specs.Prelude.{Option, None, Some}
+use Rattle.failures.proofs.Threes.{with_behind}
+use Rattle.failures.specs.Listing.{as_failure, place_for, record_in, is_list_full, step_beside, failure_beside, Beside}
+use Rattle.failures.specs.Records.{blank}
 use Rattle.failures.specs.Lists.{room_in, numbers_with}
 use Rattle.failures.specs.declared.listing.Listed.{Listed}
 use Rattle.failures.specs.declared.record.Record.{Record}
@@ -95,12 +96,12 @@ module _ (state : List ℕ) where
       → get_or (counts_in state) k 0 ≤ limit
   counts_fit k h = none_at (counts_in state) (fit_together _ _ h) k
 
-  pub too_high : any_above (counts_in state) ≡ true → OutOfRange ≡ reader_in state
+  pub too_high : any_above (counts_in state) ≡ true → None ≡ reader_in state
   unfolding reader_in
   too_high h = simp (h, pick_true)
 
   pub all_fit : any_above (counts_in state) ≡ false
-      → Fit (reader_at state) ≡ reader_in state
+      → Some (reader_at state) ≡ reader_in state
   unfolding reader_in
   all_fit h = simp (h, pick_false)
 
@@ -112,26 +113,26 @@ module _ (input memory output numbers bytes records state : List ℕ) where
   not_thirteen h = simp (ne_eqb (length state) 13 h, pick_true)
 
   -- what a call on thirteen numbers comes to, by what they are as a reader's state
-  made_known : (made known : Unpacked) → length state ≡ 13 → made ≡ reader_in state → made ≡ known
+  made_known : (made known : Option Reader) → length state ≡ 13 → made ≡ reader_in state → made ≡ known
       → called_with input memory output numbers bytes records state known ≡ called input memory output numbers bytes records state
   unfolding called
   made_known made known h e k = simp (eq-eqb (length state) 13 h, pick_false, sym e, k)
 
-  pub out_of_range : (made : Unpacked) → length state ≡ 13 → made ≡ reader_in state → made ≡ OutOfRange
+  pub out_of_range : (made : Option Reader) → length state ≡ 13 → made ≡ reader_in state → made ≡ None
       → left_by 21 memory output bytes records state ≡ called input memory output numbers bytes records state
   unfolding called_with
-  out_of_range made h e k = made_known made OutOfRange h e k
+  out_of_range made h e k = made_known made None h e k
 
-  module _ (made : Unpacked) (reader : Reader) (thirteen : length state ≡ 13) (is : made ≡ reader_in state) (fit : made ≡ Fit reader) where
+  module _ (made : Option Reader) (reader : Reader) (thirteen : length state ≡ 13) (is : made ≡ reader_in state) (fit : made ≡ Some reader) where
     pub no_places : places_fit numbers ≡ false → left_by 22 memory output bytes records state ≡ called input memory output numbers bytes records state
     unfolding called_with
-    no_places p = sym (simp (p, pick_true)) ∙ made_known made (Fit reader) thirteen is fit
+    no_places p = sym (simp (p, pick_true)) ∙ made_known made (Some reader) thirteen is fit
 
     pub no_records : places_fit numbers ≡ true → (length records % 3 ≡ 0 → ⊥)
         → left_by 23 memory output bytes records state ≡ called input memory output numbers bytes records state
     unfolding called_with records_fit
     no_records p h =
-        sym (simp (p, ne_eqb (length records % 3) 0 h, pick_true, pick_false)) ∙ made_known made (Fit reader) thirteen is fit
+        sym (simp (p, ne_eqb (length records % 3) 0 h, pick_true, pick_false)) ∙ made_known made (Some reader) thirteen is fit
 
     pub carried_out_lem : places_fit numbers ≡ true → length records % 3 ≡ 0
         → (left : Left)
@@ -139,15 +140,25 @@ module _ (input memory output numbers bytes records state : List ℕ) where
         → left ≡ called input memory output numbers bytes records state
     unfolding called_with records_fit
     carried_out_lem p h left done =
-        done ∙ sym (simp (p, eq-eqb (length records % 3) 0 h, pick_false)) ∙ made_known made (Fit reader) thirteen is fit
+        done ∙ sym (simp (p, eq-eqb (length records % 3) 0 h, pick_false)) ∙ made_known made (Some reader) thirteen is fit
 
 -- ---- the call between unpacking and storing
+
+-- the list with the failure of a call, if there is one
+unfoldable pub listed_by : List ℕ → ℕ → Option Record → List ℕ
+listed_by records held None = records
+listed_by records held (Some r) = numbers_with records held r
+
+listed_same : (records : List ℕ) (held : ℕ) (f : List Record) → listed_by records held (as_failure f) ≡ listed_in records held f
+unfolding listed_by as_failure listed_in place_for record_in
+listed_same records held [] = sym (with_behind records (room_in records) blank (omega arith))
+listed_same records held (r ∷ rest) = refl
 
 -- all that a call leaves, of what it hands back and of the list
 abbrev left_of : Listed → List ℕ → List ℕ → List ℕ → List ℕ → Left
 left_of r memory output bytes records =
     left_by (number_of r.called.outcome) memory output bytes records
-    (packed r.called.reader r.called.length (reason_of r.called.outcome) r.called.next r.called.count r.held)
+    (packed r.called.state.reader r.called.length (reason_of r.called.outcome) r.called.state.next r.called.state.selected r.held)
 
 module _ (input memory output numbers bytes records state : List ℕ) (reader : Reader) where
   abbrev state_with : List Place → State
@@ -156,23 +167,23 @@ module _ (input memory output numbers bytes records state : List ℕ) (reader : 
   -- with any row of places
   beside_step : (row : List Place) (r : Listed) (memory' output' bytes' : List ℕ)
       → Beside input (state_with row) bytes (get_or state 11 0) (room_in records) (held_in state) memory' bytes' output' r
-      → left_of r memory' output' bytes' (numbers_with records r.at r.item)
+      → left_of r memory' output' bytes' (listed_by records (held_in state) r.failure)
       ≡ stepped input (state_with row) (lent_of bytes (get_or state 11 0)) records (held_in state)
   unfolding stepped told listed_in
   beside_step row r memory' output' bytes' b =
       let f : List Record = failure_beside input (state_with row) (room_in records) (held_in state) in
       let x : Step = step_beside input (state_with row) (room_in records) (held_in state) in
       let m : Lent = lent_by (is_list_full (room_in records) (held_in state)) input (state_with row) (lent_of bytes (get_or state 11 0)) in
-      ap₂ (λ (y : Step) (l : Lent). told y l (numbers_with records r.at r.item) r.held) b.step_is b.lent_is
-      ∙ ap₂ (λ (a : ℕ) (i : Record). told x m (numbers_with records a i) r.held) b.at_is b.item_is
+      ap₂ (λ (y : Step) (l : Lent). told y l (listed_by records (held_in state) r.failure) r.held) b.step_is b.lent_is
+      ∙ ap (λ (l : List ℕ). told x m l r.held) (ap (listed_by records (held_in state)) b.failure_is ∙ listed_same records (held_in state) f)
       ∙ ap (told x m (listed_in records (held_in state) f)) b.held_is
 
   pub packed_step : (used : ℕ) → used ≡ used_of (length numbers / 2) → (row : List Place) → row ≡ placed numbers used
       → (r : Listed) (memory' output' bytes' : List ℕ)
       → Beside input (state_with row) bytes (get_or state 11 0) (room_in records) (held_in state) memory' bytes' output' r
       → (answer : ℕ) (records' state' : List ℕ) → answer ≡ number_of r.called.outcome
-      → records' ≡ numbers_with records r.at r.item
-      → state' ≡ packed r.called.reader r.called.length (reason_of r.called.outcome) r.called.next r.called.count r.held
+      → records' ≡ listed_by records (held_in state) r.failure
+      → state' ≡ packed r.called.state.reader r.called.length (reason_of r.called.outcome) r.called.state.next r.called.state.selected r.held
       → left_by answer memory' output' bytes' records' state'
       ≡ stepped input (state_in memory output numbers bytes state reader) (lent_of bytes (get_or state 11 0)) records (held_in state)
   unfolding state_in tags_in

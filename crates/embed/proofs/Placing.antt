@@ -1,5 +1,5 @@
 -- The lent numbers as places: how many are used, which are small enough, and the row that they make.
-use Prim.Native.Nat.{ℕ, suc, ◌+◌, ◌*◌, ◌/◌, ◌%◌, ◌≤◌, ◌<◌}
+use Prim.Native.Nat.{ℕ, min, suc, ◌+◌, ◌*◌, ◌/◌, ◌%◌, ◌≤◌, ◌<◌}
 use borrow.Author.Tests.{ltb-true, ltb-false, leb-true, lt-leb, le-leb, eq-eqb, ne_eqb}
 use lib.Dec.{eqb, ltb}
 use lib.ListN.{length, get_or, set}
@@ -15,6 +15,11 @@ use Rattle.reader.specs.Tallies.{limit}
 use Rattle.embed.specs.Placed.{tags_in, used_of, small_at, places_fit, place_in, placed}
 
 -- ---- how many are used
+
+pub used_least : (n : ℕ) → min n 16 ≡ used_of n
+unfolding used_of
+used_least n =
+    by_test (λ (u : ℕ). min n 16 ≡ u) (ltb 16 n) (λ h. omega (arith, ltb-true 16 n h)) (λ h. omega (arith, ltb-false 16 n h))
 
 used_few : (n : ℕ) → used_of n ≤ 16
 unfolding used_of

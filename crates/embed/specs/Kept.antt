@@ -36,13 +36,13 @@ kept_answer state c held =
     set
     (set
     (set
-    (set (set (set (set (set state 0 c.reader.cursor) 1 c.reader.tally.good) 2 c.reader.tally.error) 8 c.length) 9 0)
-    10 c.next)
-    11 c.count)
+    (set (set (set (set (set state 0 c.state.reader.cursor) 1 c.state.reader.tally.good) 2 c.state.reader.tally.error) 8 c.length) 9 0)
+    10 c.state.next)
+    11 c.state.selected)
     12 held
 
 unfoldable pub kept_by : List ℕ → Called → ℕ → Outcome → List ℕ
-kept_by state c held (Dropped r) = kept_drop state c.reader r held
+kept_by state c held (Dropped r) = kept_drop state c.state.reader r held
 kept_by state c held Answered = kept_answer state c held
 kept_by state c held AtEnd = kept state
 kept_by state c held Incomplete = kept state

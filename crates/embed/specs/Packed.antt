@@ -6,8 +6,7 @@ use Rattle.machine.specs.Lent.{selection_in}
 use Rattle.calls.specs.Calls.{Lent, lent_of, lent_by}
 use Rattle.machine.specs.Machine.{State, state_of, Step}
 use Rattle.embed.specs.Placed.{tags_in, used_of, places_fit, placed}
-use Rattle.embed.specs.declared.Unpacked.{Unpacked}
-use Rattle.embed.specs.declared.Unpacked.TheVariants.{Fit, OutOfRange}
+use Rattle.std.specs.Prelude.{Option, None, Some}
 use Rattle.failures.specs.Listing.{place_for, record_in, is_list_full, step_beside, failure_beside}
 use Rattle.failures.specs.Lists.{room_in, numbers_with}
 use Rattle.failures.specs.declared.record.Record.{Record}
@@ -40,8 +39,8 @@ reader_at state =
           tally_of (get_or state 1 0) (get_or state 2 0) (get_or state 3 0) (get_or state 4 0) (get_or state 5 0) (get_or state 6 0) (get_or state 7 0);
     }
 
-unfoldable pub reader_in : List ℕ → Unpacked
-reader_in state = pick (any_above (counts_in state)) OutOfRange (Fit (reader_at state))
+unfoldable pub reader_in : List ℕ → Option Reader
+reader_in state = pick (any_above (counts_in state)) None (Some (reader_at state))
 
 -- how many records are held
 abbrev pub held_in : List ℕ → ℕ
@@ -88,14 +87,14 @@ stepped input s l records held =
 -- it is made where the thirteen numbers are a reader's state and the others are places
 pub record Unpacking (numbers state : List ℕ) (reader : Reader) : Type 0 where
   pub thirteen : length state ≡ 13
-  pub fits : reader_in state ≡ Fit reader
+  pub fits : reader_in state ≡ Some reader
   pub are_places : places_fit numbers ≡ true
 
 -- counts that no tally can hold are refused with 21, then numbers that are no places with 22 and such as are no records with 23, and nothing changes; else the
 -- call is the machine's step
-unfoldable pub called_with : List ℕ → List ℕ → List ℕ → List ℕ → List ℕ → List ℕ → List ℕ → Unpacked → Left
-called_with input memory output numbers bytes records state OutOfRange = left_by 21 memory output bytes records state
-called_with input memory output numbers bytes records state (Fit reader) =
+unfoldable pub called_with : List ℕ → List ℕ → List ℕ → List ℕ → List ℕ → List ℕ → List ℕ → Option Reader → Left
+called_with input memory output numbers bytes records state None = left_by 21 memory output bytes records state
+called_with input memory output numbers bytes records state (Some reader) =
     pick (not (places_fit numbers)) (left_by 22 memory output bytes records state)
     (pick (not (records_fit records)) (left_by 23 memory output bytes records state)
     (stepped input (state_in memory output numbers bytes state reader) (lent_of bytes (get_or state 11 0)) records (held_in state)))

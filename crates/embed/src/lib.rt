@@ -15,32 +15,25 @@ use calls::calling::Called;
 use failures::listing::call_beside;
 use failures::records::may_acknowledge;
 use failures::triples::{add_numbers, remove_numbers};
-use frame::finding::{Reason, reason_number};
-use population::places::Place;
+use frame::finding::Reason;
+use population::places::{Place, Population};
 use reader::outcome::Outcome;
-use reader::state::Reader;
+use reader::state::{BenchState, Reader};
 use reader::tally::Tally;
 
 // The most that a count of the tally can hold, and a number of a place.
 const LIMIT: u64 = 4294967295;
 
-// The numbers of the packed state, as a reader's state.
-#[derive(Clone, Copy)]
-enum Unpacked {
-    Fit(Reader),
-    OutOfRange,
-}
-
-// The reader of a cursor and seven counts, or that a count is more than a tally can hold: then it has a bit above theirs.
-fn reader_of(state: &[u64]) -> Unpacked
+// The reader of a cursor and seven counts; none where a count is more than a tally can hold: then it has a bit above theirs.
+fn reader_of(state: &[u64]) -> Option<Reader>
     requires { length state.now ≡ 13 }
     ensures { result ≡ reader_in state.now }
 {
     let bits = state[1] | state[2] | state[3] | state[4] | state[5] | state[6] | state[7];
     if LIMIT < bits {
-        return Unpacked::OutOfRange;
+        return None;
     }
-    Unpacked::Fit(Reader {
+    Some(Reader {
         cursor: state[0] as usize,
         tally: Tally {
             good: state[1] as u32,
@@ -58,10 +51,7 @@ fn reader_of(state: &[u64]) -> Unpacked
 fn used_of(tags: usize) -> usize
     ensures { result ≡ used_of tags }
 {
-    if 16 < tags {
-        return 16;
-    }
-    tags
+    tags.min(16)
 }
 
 // None of the first n numbers is more than a place can hold.
@@ -69,12 +59,10 @@ fn are_small(numbers: &[u64], n: usize) -> bool
     requires { (n ≤ 32) × (n ≤ length numbers.now) }
     ensures { result ≡ all_below (small_at numbers.now) n }
 {
-    let mut i = 0;
-    while i < n {
+    for i in 0..n {
         if LIMIT < numbers[i] {
             return false;
         }
-        i += 1;
     }
     true
 }
@@ -84,23 +72,18 @@ fn are_places(numbers: &[u64]) -> bool
     ensures { result ≡ places_fit numbers.now }
 {
     let n = numbers.len();
-    if n % 2 != 0 {
-        return false;
-    }
-    let used = used_of(n / 2);
-    are_small(numbers, 2 * used)
+    n % 2 == 0 && are_small(numbers, 2 * used_of(n / 2))
 }
 
 // Of the thirteen numbers only those are stored that a call may have changed: five where a byte is dropped.
 
-// Nothing changed but what is told of this call, which ended with this number.
-fn keep(state: &mut [u64], number: u64) -> u64
+// Nothing changed but what is told of this call.
+fn keep(state: &mut [u64])
     requires { length state.old ≡ 13 }
-    ensures { (result ≡ number) × (state.new ≡ kept state.old) }
+    ensures { state.new ≡ kept state.old }
 {
     state[8] = 0;
     state[9] = 0;
-    number
 }
 
 // A byte was dropped: the cursor, the count of its reason, and how many records are held.
@@ -111,14 +94,14 @@ fn keep_drop(state: &mut [u64], reader: Reader, reason: Reason, held: usize)
     let tally = reader.tally;
     state[0] = reader.cursor as u64;
     state[8] = 0;
-    state[9] = reason_number(reason);
+    state[9] = u64::from(reason);
     state[12] = held as u64;
     match reason {
-        Reason::NoHeader => state[3] = tally.header as u64,
-        Reason::WrongType => state[4] = tally.kind as u64,
-        Reason::TooLong => state[5] = tally.long as u64,
-        Reason::WrongCheck => state[6] = tally.check as u64,
-        Reason::WrongEnd => state[7] = tally.end as u64,
+        Reason::NoHeader => state[3] = u64::from(tally.header),
+        Reason::WrongType => state[4] = u64::from(tally.kind),
+        Reason::TooLong => state[5] = u64::from(tally.long),
+        Reason::WrongCheck => state[6] = u64::from(tally.check),
+        Reason::WrongEnd => state[7] = u64::from(tally.end),
     }
 }
 
@@ -127,15 +110,15 @@ fn keep_answer(state: &mut [u64], called: Called, held: usize)
     requires { length state.old ≡ 13 }
     ensures { state.new ≡ kept_answer state.old called held }
 {
-    let reader = called.reader;
-    let tally = reader.tally;
-    state[0] = reader.cursor as u64;
-    state[1] = tally.good as u64;
-    state[2] = tally.error as u64;
+    let bench = called.state;
+    let tally = bench.reader.tally;
+    state[0] = bench.reader.cursor as u64;
+    state[1] = u64::from(tally.good);
+    state[2] = u64::from(tally.error);
     state[8] = called.length as u64;
     state[9] = 0;
-    state[10] = called.next as u64;
-    state[11] = called.count as u64;
+    state[10] = bench.next as u64;
+    state[11] = bench.selected as u64;
     state[12] = held as u64;
 }
 
@@ -144,27 +127,15 @@ fn tell(state: &mut [u64], called: Called, held: usize) -> u64
     requires { length state.old ≡ 13 }
     ensures { (result ≡ number_of called.outcome) × (state.new ≡ kept_by state.old called held called.outcome) }
 {
-    let outcome = called.outcome;
-    match outcome {
-        Outcome::Dropped(reason) => {
-            keep_drop(state, called.reader, reason, held);
-            3
-        }
-        Outcome::Answered => {
-            keep_answer(state, called, held);
-            0
-        }
-        Outcome::AtEnd => keep(state, 1),
-        Outcome::Incomplete => keep(state, 2),
-        Outcome::PastEnd => keep(state, 10),
-        Outcome::BadImage => keep(state, 11),
-        Outcome::ShortOutput => keep(state, 12),
-        Outcome::FullTally => keep(state, 13),
-        Outcome::FullList => keep(state, 14),
+    match called.outcome {
+        Outcome::Dropped(reason) => keep_drop(state, called.state.reader, reason, held),
+        Outcome::Answered => keep_answer(state, called, held),
+        _ => keep(state),
     }
+    u64::from(called.outcome)
 }
 
-// The call itself, where the thirteen numbers are a reader's state and the others are places. The row is made here, where it is passed on: made by a function
+// The call itself, where the thirteen numbers are a reader's state and the others are places. The row is made here, where it is lent: made by a function
 // of its own it would be copied once more.
 fn call_on(
     input: &[u8],
@@ -182,27 +153,37 @@ fn call_on(
         (lent_of selection.old (get_or state.old 11 0)) records.old (get_or state.old 12 0) }
 {
     let tags = numbers.len() / 2;
-    let used = used_of(tags);
     let nowhere = Place { from: 0, size: 0 };
-    let mut row = [nowhere; 16];
-    let mut i = 0;
-    while i < used {
+    let mut places = [nowhere; 16];
+    for i in 0..used_of(tags) {
         let from = numbers[2 * i];
         let size = numbers[2 * i + 1];
-        row[i] = Place {
+        places[i] = Place {
             from: from as u32,
             size: size as u32,
         };
-        i += 1;
     }
-    let next = state[10] as usize;
-    let count = state[11] as usize;
+    let population = Population { places, tags };
+    let bench = BenchState {
+        reader,
+        next: state[10] as usize,
+        selected: state[11] as usize,
+    };
     let held = state[12] as usize;
     let room = records.len() / 3;
     let listed = call_beside(
-        input, memory, output, selection, row, tags, reader, next, count, room, held,
+        input,
+        memory,
+        output,
+        selection,
+        &population,
+        bench,
+        room,
+        held,
     );
-    add_numbers(records, listed.at, listed.item);
+    if let Some(record) = listed.failure {
+        add_numbers(records, held, record);
+    }
     tell(state, listed.called, listed.held)
 }
 
@@ -228,7 +209,7 @@ pub fn poldrisk_call(
     if state.len() != 13 {
         return 20;
     }
-    let Unpacked::Fit(reader) = reader_of(state) else {
+    let Some(reader) = reader_of(state) else {
         return 21;
     };
     if !are_places(places) {

@@ -1,14 +1,14 @@
 -- A list that is lent as numbers, three for each record: what is done to the numbers is done to the records.
-use Prim.Native.Nat.{ℕ, zero, suc, ◌<◌, ◌≤◌, ◌+◌, ◌*◌}
+use Prim.Native.Nat.{ℕ, zero, suc, ◌<◌, ◌≤◌, ◌+◌, ◌-◌, ◌*◌}
 use borrow.Author.Tests.{ltb-true, ltb-false, lt-ltb, le-ltb}
 use lib.Dec.{ltb}
-use lib.ListN.{length, get_or, set, take, drop, length-set, length-drop}
+use lib.ListN.{length, set, take, drop, length-set, length-drop}
 use lib.Seq.{set_out}
 use mathlib.Core.Bool.{true, false}
 use mathlib.Core.List.{List, [], ◌∷◌, ◌++◌}
 use mathlib.Core.Path.{◌≡◌, refl, sym, ◌∙◌, ap, subst}
 use native.Mathlib.Omega.{arith}
-use Rattle.failures.proofs.Moves.{few_go, held_fit, kept_is, kept_none, moved_none, moved_suc, length_moved}
+use Rattle.failures.proofs.Moves.{few_go, held_fit, kept_is, kept_none, moved_none, length_moved}
 use Rattle.failures.specs.Lists.{may_remove, kept_of, moved_up, slots_in, room_in, numbers_with}
 use Rattle.failures.specs.Records.{record_of}
 use Rattle.failures.specs.declared.record.Record.{Record}
@@ -147,35 +147,8 @@ module _ (numbers : List ℕ) where
 -- ---- while they move
 
 -- k numbers have moved, of those that are to
-pub record Moving (numbers₀ : List ℕ) (held n left : ℕ) (numbers : List ℕ) (k : ℕ) : Type 0 where
-  pub left_is : left ≡ kept_of (room_in numbers₀) held n
-  pub moved_yet : k ≤ 3 * left
-  pub numbers_are : numbers ≡ moved_up numbers₀ (3 * n) k
-
-pub begins : (numbers : List ℕ) (held n left : ℕ) → left ≡ kept_of (room_in numbers) held n → Moving numbers held n left numbers 0
-begins numbers held n left e = record { left_is = e; moved_yet = omega arith; numbers_are = sym (moved_none numbers (3 * n)) }
-
-module _ {numbers₀ : List ℕ} {held n left : ℕ} {numbers : List ℕ} {k : ℕ} (m : Moving numbers₀ held n left numbers k) where
-  pub left_inside : 3 * left ≤ length numbers₀
-  left_inside = subst (λ (j : ℕ). 3 * j ≤ length numbers₀) (sym m.left_is) (kept_inside numbers₀ held n)
-
-  pub length_moving : length numbers ≡ length numbers₀
-  length_moving =
-      ap (λ (xs : List ℕ). length xs) m.numbers_are
-      ∙ length_numbers_at numbers₀ held n k (subst (λ (j : ℕ). k ≤ 3 * j) m.left_is m.moved_yet)
-
-  pub reads : k < 3 * left → k + 3 * n < length numbers₀
-  reads l = reads_inside numbers₀ held n k (subst (λ (j : ℕ). k < 3 * j) m.left_is l)
-
-  pub goes_on : k < 3 * left → Moving numbers₀ held n left (set numbers k (get_or numbers (k + 3 * n) 0)) (k + 1)
-  goes_on l =
-      record {
-        left_is = m.left_is;
-        moved_yet = omega (arith, l);
-        numbers_are = ap (λ (xs : List ℕ). set xs k (get_or xs (k + 3 * n) 0)) m.numbers_are ∙ moved_suc numbers₀ (3 * n) k 0 (reads l);
-      }
-
-  pub ends : 3 * left ≤ k → numbers ≡ moved_up numbers₀ (3 * n) (3 * kept_of (room_in numbers₀) held n)
-  ends l =
-      let all : k ≡ 3 * left = omega (arith, l, m.moved_yet) in
-      m.numbers_are ∙ ap (moved_up numbers₀ (3 * n)) (all ∙ ap (λ (j : ℕ). 3 * j) m.left_is)
+-- where some are kept, what moves and what goes is there
+pub left_there : (numbers : List ℕ) (held n left : ℕ) → left ≡ kept_of (room_in numbers) held n → 0 < left → 3 * left + 3 * n ≤ length numbers
+left_there numbers held n left e some =
+    let last : 3 * left - 1 + 3 * n < length numbers = reads_inside numbers held n (3 * left - 1) (omega (arith, e)) in
+    omega arith

@@ -10,10 +10,9 @@ use Rattle.failures.specs.declared.record.Record.{Record}
 use Rattle.frame.specs.Bytes.{pick, first_of, byte, number, part}
 use Rattle.frame.specs.Frames.{sum}
 use Rattle.population.specs.Claims.{place_of_tag, image_of}
-use Rattle.population.specs.Lowest.{lowest}
+use Rattle.population.specs.Lowest.{lowest, no_tag}
 use Rattle.population.specs.Places.{good_population}
 use Rattle.population.specs.Selections.{good_selection}
-use Rattle.population.specs.declared.lowest.Lowest.TheVariants.{NoTag}
 use Rattle.reader.specs.Outcomes.{number_of, reason_of}
 use Rattle.reader.specs.Readers.{fresh_reader}
 use Rattle.reader.specs.declared.tally.Tally.{Tally}
@@ -144,7 +143,7 @@ Bound =
     → good_selection s.bench.selection ≡ true
     → good_population s.bench.memory s.bench.tags s.bench.places ≡ true
     → 136 ≤ length s.bench.output
-    → Inner.waiting s.bench ≡ NoTag
+    → Inner.waiting s.bench ≡ no_tag
     → (k : ℕ)
     × (k ≤ length input + 15 * inventories (accepted (replicate k (call input)) s))
     × (count takes (run (replicate k (call input)) s) ≡ k)

@@ -1,16 +1,15 @@
 -- What one call makes of the list, on plain numbers: where the next record goes, and what it is.
-use Rattle.std.specs.Prelude.{ℕ, ◌+◌, Bool, true, false, List, [], ◌∷◌, ◌≡◌, leb, length}
+use Rattle.std.specs.Prelude.{ℕ, ◌+◌, Bool, List, [], ◌∷◌, Option, None, Some, ◌≡◌, leb, length}
 use Rattle.calls.specs.Calls.{step_of, lent_of, lent_by}
 use Rattle.machine.specs.Machine.{State, call, Step, step_unless}
 use Rattle.failures.specs.Records.{blank, failure_of}
-use Rattle.failures.specs.declared.listing.Failure.{Failure}
 use Rattle.failures.specs.declared.listing.Listed.{Listed}
 use Rattle.failures.specs.declared.record.Record.{Record}
 
--- a failure as the code hands it on: whether there is one, and its record
-unfoldable pub as_failure : List Record → Failure
-as_failure [] = record { found = false; item = blank }
-as_failure (r ∷ rest) = record { found = true; item = r }
+-- a failure as the code hands it on: its record, or none
+unfoldable pub as_failure : List Record → Option Record
+as_failure [] = None
+as_failure (r ∷ rest) = Some r
 
 -- where it goes: behind those held, or behind the list's room, where no place is
 unfoldable pub place_for : ℕ → ℕ → List Record → ℕ
@@ -35,7 +34,6 @@ failure_beside input s room held = failure_of input s (step_beside input s room 
 -- the state s is that before the call, and `bytes` and `count` are its selection, all 39 bytes; the other lists are those that the call left
 pub record Beside (input : List ℕ) (s : State) (bytes : List ℕ) (count room held : ℕ) (memory_left bytes_left output_left : List ℕ) (r : Listed) : Type 0 where
   pub step_is : step_of r.called memory_left s.places s.tags bytes_left output_left ≡ step_beside input s room held
-  pub lent_is : lent_of bytes_left r.called.count ≡ lent_by (is_list_full room held) input s (lent_of bytes count)
-  pub at_is : r.at ≡ place_for room held (failure_beside input s room held)
-  pub item_is : r.item ≡ record_in (failure_beside input s room held)
+  pub lent_is : lent_of bytes_left r.called.state.selected ≡ lent_by (is_list_full room held) input s (lent_of bytes count)
+  pub failure_is : r.failure ≡ as_failure (failure_beside input s room held)
   pub held_is : r.held ≡ held + length (failure_beside input s room held)

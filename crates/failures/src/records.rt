@@ -1,6 +1,6 @@
 // The lent list of failures: a record is put at a place, and the first ones go while the rest move up. What the list is depends on the number held, which its
 // holder keeps; see specs/Lists.antt.
-ghost use Rattle.std.specs.Prelude.{◌≡◌, length, set};
+ghost use Rattle.std.specs.Prelude.{ℕ, ◌+◌, ◌<◌, ◌≡◌, length, set};
 ghost use Rattle.failures.specs.Lists.{may_remove, kept_of, moved_up};
 
 use crate::record::Record;
@@ -18,23 +18,27 @@ pub fn add(records: &mut [Record], at: usize, item: Record)
 pub fn may_acknowledge(room: usize, held: usize, n: usize) -> bool
     ensures { result ≡ may_remove room held n }
 {
-    if held < n {
-        return false;
-    }
-    held <= room
+    n <= held && held <= room
 }
 
 // How many records are kept where the first n of `held` go; 0 where they may not.
 pub fn kept(room: usize, held: usize, n: usize) -> usize
     ensures { result ≡ kept_of room held n }
 {
-    if held < n {
-        return 0;
+    if may_acknowledge(room, held, n) {
+        return held - n;
     }
-    if room < held {
-        return 0;
+    0
+}
+
+// The `left` items from place n on move to the start; what stands behind them is left as it was.
+pub(crate) fn move_up<T: Copy>(items: &mut [T], n: usize, left: usize)
+    requires { (k : ℕ) → k < left → k + n < length items.old }
+    ensures { items.new ≡ moved_up items.old n left }
+{
+    for k in 0..left {
+        items[k] = items[k + n];
     }
-    held - n
 }
 
 // The first n records go and the rest move up; what stands behind the rest is left as it was. Where they may not go none is kept, so that nothing moves.
@@ -43,12 +47,7 @@ pub fn remove(records: &mut [Record], held: usize, n: usize) -> usize
         × (records.new ≡ moved_up records.old n (kept_of (length records.old) held n)) }
 {
     let left = kept(records.len(), held, n);
-    let mut k = 0;
-    while k < left {
-        let moved = records[k + n];
-        records[k] = moved;
-        k += 1;
-    }
+    move_up(records, n, left);
     left
 }
 

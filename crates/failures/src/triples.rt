@@ -3,7 +3,7 @@ ghost use Rattle.std.specs.Prelude.{◌*◌, ◌≡◌};
 ghost use Rattle.failures.specs.Lists.{kept_of, moved_up, room_in, numbers_with};
 
 use crate::record::Record;
-use crate::records::kept;
+use crate::records::{kept, move_up};
 
 // A place behind the room changes nothing.
 pub fn add_numbers(numbers: &mut [u64], at: usize, item: Record)
@@ -11,8 +11,8 @@ pub fn add_numbers(numbers: &mut [u64], at: usize, item: Record)
 {
     if at < numbers.len() / 3 {
         numbers[3 * at] = item.cursor as u64;
-        numbers[3 * at + 1] = item.code as u64;
-        numbers[3 * at + 2] = item.error as u64;
+        numbers[3 * at + 1] = u64::from(item.code);
+        numbers[3 * at + 2] = u64::from(item.error);
     }
 }
 
@@ -22,10 +22,8 @@ pub fn remove_numbers(numbers: &mut [u64], held: usize, n: usize) -> usize
         × (numbers.new ≡ moved_up numbers.old (3 * n) (3 * kept_of (room_in numbers.old) held n)) }
 {
     let left = kept(numbers.len() / 3, held, n);
-    let mut k = 0;
-    while k < 3 * left {
-        numbers[k] = numbers[k + 3 * n];
-        k += 1;
+    if 0 < left {
+        move_up(numbers, 3 * n, 3 * left);
     }
     left
 }

@@ -1,4 +1,5 @@
 -- What a call answers, and what it leaves where it answers no frame.
+use Rattle.population.specs.declared.places.Place.{Place}
 use Prim.Native.Nat.{ℕ, ◌+◌, ◌%◌}
 use lib.Dec.{eqb, leb, ltb}
 use lib.ListN.{length, drop}
@@ -30,8 +31,7 @@ use Rattle.frame.specs.declared.finding.Reason.{Reason}
 use Rattle.population.specs.Lowest.{lowest}
 use Rattle.population.specs.Places.{good_population}
 use Rattle.population.specs.Selections.{taken, good_selection}
-use Rattle.population.specs.declared.lowest.Lowest.{Lowest}
-use Rattle.population.specs.declared.lowest.Lowest.TheVariants.{NoTag, Tag}
+use Rattle.std.specs.Prelude.{Option, None, Some}
 use Rattle.reader.specs.Tallies.{any_at_limit, full, limit}
 use Rattle.reader.specs.declared.tally.Tally.{Tally}
 
@@ -51,15 +51,15 @@ module _ (input : List ℕ) (s : State) where
   number_pick true x y = refl
   number_pick false x y = refl
 
-  pub number_hand_out : (cursor : ℕ) (else : Job) (low : Lowest) → number_for (hand_out cursor else low) ≡ pick (not (is_none low)) 0 (number_for else)
+  pub number_hand_out : (cursor : ℕ) (else : Job) (low : Option (ℕ × Place)) → number_for (hand_out cursor else low) ≡ pick (not (is_none low)) 0 (number_for else)
   unfolding pick hand_out is_none carried_out aimed acted number_of
-  number_hand_out cursor else NoTag = refl
-  number_hand_out cursor else (Tag n p) = refl
+  number_hand_out cursor else None = refl
+  number_hand_out cursor else (Some (n, p)) = refl
 
-  number_aim : (cursor pl : ℕ) (low : Lowest) → number_for (aim_job input cursor pl low) ≡ 0
+  number_aim : (cursor pl : ℕ) (low : Option (ℕ × Place)) → number_for (aim_job input cursor pl low) ≡ 0
   unfolding aim_job carried_out aimed acted missed told number_of
-  number_aim cursor pl NoTag = refl
-  number_aim cursor pl (Tag n p) = refl
+  number_aim cursor pl None = refl
+  number_aim cursor pl (Some (n, p)) = refl
 
   number_select : (pl : ℕ) → number_for (Select pl) ≡ 0
   unfolding carried_out number_of
@@ -128,10 +128,10 @@ unless_filled list_full = same_either list_full (Stay FullTally)
 
 -- what comes behind the tests is no refusal
 module _ (input : List ℕ) (s : State) where
-  aim_goes_on : (cursor pl : ℕ) (low : Lowest) → is_refused (aim_job input cursor pl low) ≡ false
+  aim_goes_on : (cursor pl : ℕ) (low : Option (ℕ × Place)) → is_refused (aim_job input cursor pl low) ≡ false
   unfolding aim_job is_refused
-  aim_goes_on cursor pl NoTag = refl
-  aim_goes_on cursor pl (Tag n p) = refl
+  aim_goes_on cursor pl None = refl
+  aim_goes_on cursor pl (Some (n, p)) = refl
 
   found_goes_on : (f : Found) → is_refused (found_job input s.memory s.tags s.places s.selection s.reader.cursor f) ≡ false
   unfolding found_job command_job is_refused number_of
@@ -142,13 +142,13 @@ module _ (input : List ℕ) (s : State) where
       by_test (λ (j : Job). is_refused j ≡ false) (eqb (code_at input s.reader.cursor) 0x0C) (λ _. refl)
       (λ _. aim_goes_on s.reader.cursor pl (lowest s.memory s.tags s.places s.selection 0))
 
-  hand_goes_on : (low : Lowest)
+  hand_goes_on : (low : Option (ℕ × Place))
       → is_refused (hand_out s.reader.cursor (find_job input s.memory s.tags s.places s.selection s.reader.cursor) low) ≡ false
   unfolding hand_out find_job is_refused
-  hand_goes_on NoTag = found_goes_on (find commands (drop s.reader.cursor input))
-  hand_goes_on (Tag n p) = refl
+  hand_goes_on None = found_goes_on (find commands (drop s.reader.cursor input))
+  hand_goes_on (Some (n, p)) = refl
 
-  unless_hand_out : (list_full : Bool) (low : Lowest)
+  unless_hand_out : (list_full : Bool) (low : Option (ℕ × Place))
       → unless list_full (hand_out s.reader.cursor (find_job input s.memory s.tags s.places s.selection s.reader.cursor) low)
       ≡ pick list_full (Stay FullList) (hand_out s.reader.cursor (find_job input s.memory s.tags s.places s.selection s.reader.cursor) low)
   unfolding unless

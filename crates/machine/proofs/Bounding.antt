@@ -35,11 +35,10 @@ use Rattle.image.specs.Image.{good}
 use Rattle.frame.specs.declared.finding.Reason.{Reason}
 use Rattle.population.proofs.GoodPopulations.{population_facts}
 use Rattle.population.proofs.Selects.{lowest_cases}
-use Rattle.population.specs.Lowest.{lowest}
+use Rattle.population.specs.Lowest.{lowest, no_tag, tag_at}
 use Rattle.population.specs.Places.{image_at, good_population}
 use Rattle.population.specs.Selections.{taken, good_selection}
-use Rattle.population.specs.declared.lowest.Lowest.{Lowest}
-use Rattle.population.specs.declared.lowest.Lowest.TheVariants.{NoTag, Tag}
+use Rattle.std.specs.Prelude.{Option}
 use Rattle.population.specs.declared.places.Place.{Place}
 use Rattle.reader.proofs.Tallies.{few_counts, raised_most}
 use Rattle.reader.specs.Tallies.{counts_of, limit, full, with_good, with_error}
@@ -54,7 +53,7 @@ use Rattle.tag.specs.Errors.{Verdict}
 fewer_left : (u : State) → u.tags ≤ 16 → tags_left (waiting u) ≤ 16 - u.next
 unfolding tags_left waiting
 fewer_left u few =
-    lowest_cases u.memory u.tags u.places u.selection u.next few (λ (r : Lowest). tags_left r ≤ 16 - u.next) (λ none. omega arith)
+    lowest_cases u.memory u.tags u.places u.selection u.next few (λ (r : Option (ℕ × Place)). tags_left r ≤ 16 - u.next) (λ none. omega arith)
     (λ n l m passes none. omega arith)
 
 -- a command leaves none, but an inventory, which leaves 15 at most
@@ -92,7 +91,7 @@ module _ (input : List ℕ) (s : State) where
       → bytes_left input x.next + tags_left (waiting x.next) + 1 ≤ bytes_left input s + tags_left (waiting s) → Less x 0
   less_none x bytes tags one = record { bytes_fall = omega arith; tags_few = omega arith; one_falls = omega arith }
 
-  hand_out_less : Tested input s → (n : ℕ) (p : Place) → waiting s ≡ Tag n p → Less (aimed s (hand_out_at s n p) []) 0
+  hand_out_less : Tested input s → (n : ℕ) (p : Place) → waiting s ≡ tag_at n p → Less (aimed s (hand_out_at s n p) []) 0
   unfolding aimed acted bytes_left tags_left waiting
   hand_out_less t n p e =
       let x : Step = aimed s (hand_out_at s n p) [] in
@@ -103,7 +102,7 @@ module _ (input : List ℕ) (s : State) where
       let further : x.next.next ≡ n + 1 = (hands_out input s t n p e).behind_it in
       less_none x (omega arith) (omega arith) (omega (arith, tag.one_of))
 
-  dropped_less : waiting s ≡ NoTag → (r : Reason) → 1 ≤ length (drop s.reader.cursor input) → Less (dropped s r) 0
+  dropped_less : waiting s ≡ no_tag → (r : Reason) → 1 ≤ length (drop s.reader.cursor input) → Less (dropped s r) 0
   unfolding dropped bytes_left tags_left waiting
   dropped_less none r some =
       less_none (dropped s r) (omega arith) (omega arith) (omega (arith, length-drop s.reader.cursor input))
@@ -235,7 +234,7 @@ run_potential input (suc k) s =
     )
 
 -- from a start with none to hand out, however many calls were made
-pub few_takes : (input : List ℕ) (s : State) → s.reader ≡ fresh_reader → waiting s ≡ NoTag → (k : ℕ)
+pub few_takes : (input : List ℕ) (s : State) → s.reader ≡ fresh_reader → waiting s ≡ no_tag → (k : ℕ)
     → count takes (run (replicate k (call input)) s) ≤ length input + 15 * inventories (accepted (replicate k (call input)) s)
 unfolding potential bytes_left tags_left
 few_takes input s fresh none k =
@@ -274,7 +273,7 @@ module _ (input : List ℕ) (most : ℕ) (small : most < limit) where
   framed_room frame output room short = omega (arith, length_written frame output (omega arith))
 
   aimed_keeps : (s : State) → Tested input s → (start : ℕ) (a : Aimed) (p : List ℕ)
-      → lowest s.memory s.tags s.places s.selection start ≡ Tag a.number a.place → a.behind ≤ length input → Keeps s (aimed s a p)
+      → lowest s.memory s.tags s.places s.selection start ≡ tag_at a.number a.place → a.behind ≤ length input → Keeps s (aimed s a p)
   unfolding aimed acted act_for image_for counted
   aimed_keeps s t start a p e there =
       let image : List ℕ = image_at s.memory a.place in

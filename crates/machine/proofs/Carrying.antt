@@ -1,4 +1,5 @@
 -- What an accepted command comes to: at the lowest tag, with none, or as the selection.
+use Rattle.population.proofs.Firsts.{same_tags}
 use Prim.Native.Nat.{ℕ, ◌+◌}
 use borrow.Author.Tests.{ne_eqb}
 use lib.ListN.{length, take}
@@ -27,8 +28,8 @@ use Rattle.population.proofs.Images.{image_same}
 use Rattle.population.proofs.OnePlace.{length_changed}
 use Rattle.population.specs.Places.{inside, image_at}
 use Rattle.population.specs.Selections.{taken}
-use Rattle.population.specs.declared.lowest.Lowest.{Lowest}
-use Rattle.population.specs.declared.lowest.Lowest.TheVariants.{NoTag, Tag}
+use Rattle.population.specs.Lowest.{no_tag, tag_at}
+use Rattle.std.specs.Prelude.{Option}
 use Rattle.population.specs.declared.places.Place.{Place}
 use Rattle.reader.specs.Tallies.{with_good, with_error}
 use Rattle.tag.specs.Answers.{answer, changed, is_error}
@@ -141,8 +142,8 @@ module _ (c : Call) (s : State) (pl : ℕ) (a : Accepts (input_of c) s pl) where
 
 -- ---- the claims
 
-clash : {C : Type 0} (n : ℕ) (p : Place) (r : Lowest) → r ≡ NoTag → r ≡ Tag n p → C
-clash n p r e f = let same : NoTag ≡ Tag n p = sym e ∙ f in let z : ◌≡◌ {A = ℕ} 0 1 = cc in absurd (omega arith)
+clash : {C : Type 0} (n : ℕ) (p : Place) (r : Option (ℕ × Place)) → r ≡ no_tag → r ≡ tag_at n p → C
+clash n p r e f = let same : no_tag ≡ tag_at n p = sym e ∙ f in let z : ◌≡◌ {A = ℕ} 0 1 = cc in absurd (omega arith)
 
 pub commands_aim : CommandsAim
 unfolding unchanged dropped number_of code_in
@@ -153,12 +154,10 @@ commands_aim c s n p accepting code low =
     (λ pl a is h. absurd (code (sym (code_is c s pl a) ∙ is)))
     (λ pl a other missing h. clash n p _ missing low)
     (λ pl a other m q e h.
-    let same : Tag m q ≡ Tag n p = sym e ∙ low in
-    let number_is : m ≡ n = cc in
-    let place_is : q ≡ p = cc in
+    let same : (m ≡ n) × (q ≡ p) = same_tags m n q p (sym e ∙ low) in
     let x : Step = aimed s (command_at (input_of c) s pl m q) (given c s pl a) in
-    subst (λ (r : Place). CarriedOutAt c s n r x) place_is
-    (subst (λ (k : ℕ). CarriedOutAt c s k q x) number_is (carried_out_lem c s pl a m q (found_tag (input_of c) s a.tested 0 m q e))))
+    subst (λ (r : Place). CarriedOutAt c s n r x) same.1
+    (subst (λ (k : ℕ). CarriedOutAt c s k q x) same.0 (carried_out_lem c s pl a m q (found_tag (input_of c) s a.tested 0 m q e))))
     accepting.0
 
 pub commands_miss : CommandsMiss

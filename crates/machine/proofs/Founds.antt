@@ -17,7 +17,7 @@ use Rattle.frame.specs.Formats.{commands}
 use Rattle.frame.specs.Frames.{longest_answer}
 use Rattle.population.specs.Places.{good_population}
 use Rattle.population.specs.Selections.{good_selection}
-use Rattle.population.specs.declared.lowest.Lowest.TheVariants.{NoTag, Tag}
+use Rattle.population.specs.Lowest.{no_tag, tag_at}
 use Rattle.population.specs.declared.places.Place.{Place}
 use Rattle.reader.specs.Outcomes.{number_of}
 use Rattle.reader.specs.Tallies.{full}
@@ -45,10 +45,10 @@ module _ (input : List ℕ) (s : State) where
   unfolding step input_of
   not_refused few = behind_the_tests few
 
-  pub by_found : waiting s ≡ NoTag → number_of (step (call input) s).outcome ≤ 3 → number_of (step (call input) s).outcome ≡ found
+  pub by_found : waiting s ≡ no_tag → number_of (step (call input) s).outcome ≤ 3 → number_of (step (call input) s).outcome ≡ found
   unfolding is_none
   by_found none few = not_refused few ∙ simp (none, pick_false)
 
-  pub by_waiting : (n : ℕ) (p : Place) → waiting s ≡ Tag n p → number_of (step (call input) s).outcome ≤ 3 → number_of (step (call input) s).outcome ≡ 0
+  pub by_waiting : (n : ℕ) (p : Place) → waiting s ≡ tag_at n p → number_of (step (call input) s).outcome ≤ 3 → number_of (step (call input) s).outcome ≡ 0
   unfolding is_none
   by_waiting n p some few = not_refused few ∙ simp (some, pick_true)

@@ -15,10 +15,9 @@ use Rattle.frame.proofs.FrameBytes.{length_frame, length_written, drop_written}
 use Rattle.frame.proofs.Picks.{by_test}
 use Rattle.frame.specs.Formats.{pl_in}
 use Rattle.frame.specs.Frames.{frame_of, frame_length}
-use Rattle.population.specs.Lowest.{lowest}
+use Rattle.population.specs.Lowest.{lowest, no_tag, tag_at}
 use Rattle.population.specs.Places.{image_at}
 use Rattle.population.specs.Selections.{taken}
-use Rattle.population.specs.declared.lowest.Lowest.TheVariants.{NoTag, Tag}
 use Rattle.population.specs.declared.places.Place.{Place}
 use Rattle.reader.specs.declared.state.Reader.{Reader}
 use Rattle.tag.proofs.AnswerBytes.{answer_most}
@@ -41,14 +40,14 @@ answer_some image (Ok (Store at)) = frame_some _ _ _
 answer_some image (Ok (Set code at count value)) = frame_some _ _ _
 
 -- no tag waits, and one does
-apart : {C : Type 0} (s : State) (n : ℕ) (p : Place) → waiting s ≡ NoTag → waiting s ≡ Tag n p → C
+apart : {C : Type 0} (s : State) (n : ℕ) (p : Place) → waiting s ≡ no_tag → waiting s ≡ tag_at n p → C
 apart s n p none one = let z : ◌≡◌ {A = ℕ} 0 1 = cc in absurd (omega arith)
 
 module _ (c : Call) (s : State) where
   -- where the cursor is to stand: behind the command, or where it stood
   record Stands (at : ℕ) : Type 0 where
-    over : waiting s ≡ NoTag → at ≡ s.reader.cursor + (7 + pl_in (rest_of c s))
-    stays : (n : ℕ) (p : Place) → waiting s ≡ Tag n p → at ≡ s.reader.cursor
+    over : waiting s ≡ no_tag → at ≡ s.reader.cursor + (7 + pl_in (rest_of c s))
+    stays : (n : ℕ) (p : Place) → waiting s ≡ tag_at n p → at ≡ s.reader.cursor
     inside : at ≤ length (input_of c)
 
   behind_command : (pl : ℕ) → Accepts (input_of c) s pl → Stands (s.reader.cursor + frame_length pl)
@@ -64,7 +63,7 @@ module _ (c : Call) (s : State) where
   Framed x = OneFrame c s x
 
   at_a_tag : Tested (input_of c) s → (start : ℕ) (a : Aimed) (p : List ℕ)
-      → lowest s.memory s.tags s.places s.selection start ≡ Tag a.number a.place → Stands a.behind
+      → lowest s.memory s.tags s.places s.selection start ≡ tag_at a.number a.place → Stands a.behind
       → Framed (aimed s a p)
   unfolding aimed acted act_for image_for pl_in
   at_a_tag t start a p e stands =

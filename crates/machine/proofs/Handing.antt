@@ -1,4 +1,5 @@
 -- Handing out: the lowest tag from the next number on, and over a list of calls each of them once, in rising number.
+use Rattle.population.proofs.Firsts.{same_tags}
 use Prim.Native.Nat.{ℕ, zero, suc, ◌+◌, ◌-◌, ◌≤◌, ◌<◌}
 use borrow.Author.Tests.{ne_eqb, eqb-true, eqb-false}
 use lib.Dec.{eqb}
@@ -29,9 +30,8 @@ use Rattle.population.proofs.Claimed.{lowest_tag}
 use Rattle.population.proofs.Firsts.{NonePasses}
 use Rattle.population.proofs.GoodPopulations.{population_facts}
 use Rattle.population.specs.Executing.{replaced}
-use Rattle.population.specs.Lowest.{selected_image, selected, selected_at}
+use Rattle.population.specs.Lowest.{selected_image, selected, selected_at, no_tag, tag_at}
 use Rattle.population.specs.Places.{place_at, inside, image_at, good_population}
-use Rattle.population.specs.declared.lowest.Lowest.TheVariants.{NoTag, Tag}
 use Rattle.population.specs.declared.places.Place.{Place}
 use Rattle.reader.proofs.Tallies.{not_full, raised_below}
 use Rattle.tag.specs.Answers.{answer, changed, is_error}
@@ -42,7 +42,7 @@ use Rattle.tag.specs.declared.commands.Act.TheVariants.{Notify}
 
 -- ---- one hand-out
 
-module _ (input : List ℕ) (s : State) (t : Tested input s) (n : ℕ) (p : Place) (e : waiting s ≡ Tag n p) where
+module _ (input : List ℕ) (s : State) (t : Tested input s) (n : ℕ) (p : Place) (e : waiting s ≡ tag_at n p) where
   tag : TheLowest s.memory s.tags s.places s.selection s.next n p
   unfolding waiting
   tag = found_tag input s t s.next n p e
@@ -64,11 +64,11 @@ module _ (input : List ℕ) (s : State) (t : Tested input s) (n : ℕ) (p : Plac
 
 -- a tag that waits is handed out, and nothing else happens
 module _ (s : State) where
-  two_tags : (n k : ℕ) (p q : Place) → waiting s ≡ Tag n p → waiting s ≡ Tag k q → (n ≡ k) × (p ≡ q)
-  two_tags n k p q e f = let same : Tag n p ≡ Tag k q = sym e ∙ f in (cc, cc)
+  two_tags : (n k : ℕ) (p q : Place) → waiting s ≡ tag_at n p → waiting s ≡ tag_at k q → (n ≡ k) × (p ≡ q)
+  two_tags n k p q e f = same_tags n k p q (sym e ∙ f)
 
-  none_or_one : (n : ℕ) (p : Place) → waiting s ≡ NoTag → waiting s ≡ Tag n p → ⊥
-  none_or_one n p e f = let same : NoTag ≡ Tag n p = sym e ∙ f in let z : ◌≡◌ {A = ℕ} 0 1 = cc in omega arith
+  none_or_one : (n : ℕ) (p : Place) → waiting s ≡ no_tag → waiting s ≡ tag_at n p → ⊥
+  none_or_one n p e f = let same : no_tag ≡ tag_at n p = sym e ∙ f in let z : ◌≡◌ {A = ℕ} 0 1 = cc in omega arith
 
 pub hand_out : HandOut
 unfolding unchanged dropped number_of
@@ -150,7 +150,7 @@ abbrev pub command_in : Call → State → Command
 command_in c s = record { code = code_in (rest_of c s); parameters = parameters_in (rest_of c s) }
 
 -- an answer where no tag waits is that of an accepted command
-some_accepted : (s : State) (m : Command) (o : Outcome) → o ≡ Answered → waiting s ≡ NoTag
+some_accepted : (s : State) (m : Command) (o : Outcome) → o ≡ Answered → waiting s ≡ no_tag
     → pick (eqb (number_of o) 0 && is_none (waiting s)) (m ∷ []) [] ≡ [] → ⊥
 unfolding number_of is_none
 some_accepted s m o e none h =
@@ -218,10 +218,9 @@ inventory_starts c s n p answers none low code pl =
     (λ t k q e h. absurd (none_or_one s k q none e))
     (λ t none r found some h. absurd (omega (arith, h)))
     (λ k a other h. absurd (omega (arith, code, other, code_there (input_of c) s.reader.cursor)))
-    (λ k a other missing h. let same : NoTag ≡ Tag n p = sym missing ∙ low in let z : ◌≡◌ {A = ℕ} 0 1 = cc in absurd (omega arith))
+    (λ k a other missing h. let same : no_tag ≡ tag_at n p = sym missing ∙ low in let z : ◌≡◌ {A = ℕ} 0 1 = cc in absurd (omega arith))
     (λ k a other m q e h.
-    let same : Tag m q ≡ Tag n p = sym e ∙ low in
-    let number_is : m ≡ n = cc in
+    let number_is : m ≡ n = (same_tags m n q p (sym e ∙ low)).0 in
     let g = a.tested.population_good in
     let tag = found_tag (input_of c) s a.tested 0 m q e in
     let job : Aimed = command_at (input_of c) s k m q in

@@ -1,7 +1,7 @@
 -- What is decided, test by test, as the code comes upon it.
 use Prim.Native.Nat.{ℕ, zero, suc, ◌+◌, ◌-◌, ◌≤◌, ◌<◌}
 use borrow.Author.Tests.{lt-ltb, le-ltb, le-leb, lt-leb, eq-eqb, ne_eqb}
-use lib.ListN.{length, take, drop, get_or, replicate, length-drop}
+use lib.ListN.{length, take, drop, get_or, replicate, length-drop, get_or-eq_default}
 use lib.Seq.{take_all}
 use mathlib.Core.Bool.{Bool, true, false}
 use mathlib.Core.List.{List, ◌∷◌}
@@ -22,39 +22,36 @@ use Rattle.frame.specs.Frames.{frame_length, longest_answer}
 use Rattle.frame.specs.declared.finding.Found.{Found}
 use Rattle.frame.specs.declared.finding.Found.TheVariants.{End, Drop, Wait, Accept}
 use Rattle.frame.specs.declared.finding.Reason.{Reason}
-use Rattle.population.specs.Lowest.{lowest}
+use Rattle.population.specs.Lowest.{lowest, no_tag, tag_at}
 use Rattle.population.specs.Places.{good_population}
 use Rattle.population.specs.Selections.{target_of, action_of, mask_bank, taken, good_selection}
-use Rattle.population.specs.declared.lowest.Lowest.{Lowest}
-use Rattle.population.specs.declared.lowest.Lowest.TheVariants.{NoTag, Tag}
+use Rattle.std.specs.List.{slice_range}
+use Rattle.std.specs.Prelude.{Option}
 use Rattle.population.specs.declared.places.Place.{Place}
 use Rattle.reader.specs.Tallies.{full}
 use Rattle.tag.specs.Commands.{parse}
 
 -- ---- the lent selection
 
-module _ (bytes : List ℕ) (count : ℕ) where
-  pub selection_whole : count ≤ 39 → take (count - 0) (drop 0 bytes) ≡ selection_in bytes count
+-- what is handed out of the lent bytes, where so many are there, is the selection
+module _ (bytes : List ℕ) (count : ℕ) (cut : List ℕ) (is : cut ≡ slice_range bytes 0 count) (few : count ≤ 39) where
+  pub selection_whole : cut ≡ selection_in bytes count
   unfolding selection_in
-  selection_whole few =
+  selection_whole =
       let k : count - 0 ≡ count = omega arith in
-      ap (λ (n : ℕ). take n bytes) k ∙ sym (simp (le-leb count 39 few, pick_true))
+      is ∙ ap (λ (n : ℕ). take n bytes) k ∙ sym (simp (le-leb count 39 few, pick_true))
 
--- the whole is what is lent to the tests
-module _ (bytes : List ℕ) (count : ℕ) (few : count ≤ 39) where
-  pub selection_judged : (r : Bool) → r ≡ good_selection (take (count - 0) (drop 0 bytes)) → r ≡ good_selection (selection_in bytes count)
-  selection_judged r e = e ∙ ap good_selection (selection_whole bytes count few)
+  pub selection_judged : (r : Bool) → r ≡ good_selection cut → r ≡ good_selection (selection_in bytes count)
+  selection_judged r e = e ∙ ap good_selection selection_whole
 
-  pub lowest_whole : (memory : List ℕ) (tags : ℕ) (places : List Place) (start : ℕ) (r : Lowest)
-      → r ≡ lowest memory tags places (take (count - 0) (drop 0 bytes)) start → r ≡ lowest memory tags places (selection_in bytes count) start
-  lowest_whole memory tags places start r e =
-      e ∙ ap (λ (l : List ℕ). lowest memory tags places l start) (selection_whole bytes count few)
+  pub lowest_whole : (memory : List ℕ) (tags : ℕ) (places : List Place) (start : ℕ) (r : Option (ℕ × Place))
+      → r ≡ lowest memory tags places cut start → r ≡ lowest memory tags places (selection_in bytes count) start
+  lowest_whole memory tags places start r e = e ∙ ap (λ (l : List ℕ). lowest memory tags places l start) selection_whole
 
   pub job_whole : (input memory : List ℕ) (tags : ℕ) (places : List Place) (cursor : ℕ) (r : Job)
-      → r ≡ find_job input memory tags places (take (count - 0) (drop 0 bytes)) cursor
+      → r ≡ find_job input memory tags places cut cursor
       → r ≡ find_job input memory tags places (selection_in bytes count) cursor
-  job_whole input memory tags places cursor r e =
-      e ∙ ap (λ (l : List ℕ). find_job input memory tags places l cursor) (selection_whole bytes count few)
+  job_whole input memory tags places cursor r e = e ∙ ap (λ (l : List ℕ). find_job input memory tags places l cursor) selection_whole
 
 zero_not_taken : (l : List ℕ) → taken (0 ∷ l) ≡ false
 unfolding taken all target_of action_of mask_bank byte
@@ -68,6 +65,12 @@ zeros_bad (suc n) h = simp (ne_eqb (suc (length (replicate {A = ℕ} n 0))) 0 (�
 pub too_many_bad : (bytes : List ℕ) (count : ℕ) → 39 < count → good_selection (selection_in bytes count) ≡ false
 unfolding selection_in
 too_many_bad bytes count many = simp (lt-leb count 39 many, pick_false) (zeros_bad count (omega arith))
+
+-- ---- the code at the cursor
+
+pub no_code : (input : List ℕ) (cursor : ℕ) → length input ≤ cursor → 0 ≡ code_at input cursor
+unfolding code_at byte
+no_code input cursor h = sym (get_or-eq_default input 0 (omega arith))
 
 -- ---- what is found
 
@@ -118,12 +121,12 @@ module _ (input memory : List ℕ) (tags : ℕ) (places : List Place) (selection
     unfolding command_job code_at byte
     selects e = simp (eq-eqb (get_or input (cursor + 2) 0) 0x0C e, pick_true)
 
-    module _ (other : get_or input (cursor + 2) 0 ≡ 0x0C → ⊥) (told : Lowest) (low : told ≡ lowest memory tags places selection 0) where
-      aims_at : (kind : Lowest) → told ≡ kind → Commands (aim_job input cursor pl kind)
+    module _ (other : get_or input (cursor + 2) 0 ≡ 0x0C → ⊥) (told : Option (ℕ × Place)) (low : told ≡ lowest memory tags places selection 0) where
+      aims_at : (kind : Option (ℕ × Place)) → told ≡ kind → Commands (aim_job input cursor pl kind)
       unfolding command_job code_at byte
       aims_at kind e = simp (ne_eqb (get_or input (cursor + 2) 0) 0x0C other, pick_false, ← low, e)
 
-      pub misses : told ≡ NoTag → (e : ℕ)
+      pub misses : told ≡ no_tag → (e : ℕ)
           → e ≡ error_without (parse (get_or input (cursor + 2) 0) (take (cursor + 5 + pl - (cursor + 5)) (drop (cursor + 5) input)))
           → Commands (Miss e pl)
       unfolding aim_job code_at parameters_at byte part
@@ -132,9 +135,9 @@ module _ (input memory : List ℕ) (tags : ℕ) (places : List Place) (selection
           let error : e ≡ error_without (parse (get_or input (cursor + 2) 0) (take pl (drop (cursor + 5) input))) =
           is ∙ ap (λ (k : ℕ). error_without (parse (get_or input (cursor + 2) 0) (take k (drop (cursor + 5) input)))) n
           in
-          ap (λ (k : ℕ). Miss k pl) error ∙ aims_at NoTag none
+          ap (λ (k : ℕ). Miss k pl) error ∙ aims_at no_tag none
 
-      pub aims : (number : ℕ) (place : Place) → told ≡ Tag number place
+      pub aims : (number : ℕ) (place : Place) → told ≡ tag_at number place
           → Commands
           (Aim
           record { number = number; place = place; code = get_or input (cursor + 2) 0; first = cursor + 5; pl = pl; behind = cursor + 7 + pl })
@@ -144,7 +147,7 @@ module _ (input memory : List ℕ) (tags : ℕ) (places : List Place) (selection
           (λ (n : ℕ).
           Aim record { number = number; place = place; code = get_or input (cursor + 2) 0; first = cursor + 5; pl = pl; behind = n })
           (add_assoc cursor 7 pl)
-          ∙ aims_at (Tag number place) e
+          ∙ aims_at (tag_at number place) e
 
 -- ---- the tests before
 
@@ -182,16 +185,16 @@ module _ (input : List ℕ) (s : State) where
             unfolding decide longest_answer
             tested = simp (le-ltb (length input) s.reader.cursor h, c, g, le-ltb (length s.output) 136 o, f, pick_false)
 
-            module _ (told : Lowest) (low : told ≡ lowest s.memory s.tags s.places s.selection s.next) where
-              turn : (kind : Lowest) → told ≡ kind → hand_out s.reader.cursor found kind ≡ decide input s
+            module _ (told : Option (ℕ × Place)) (low : told ≡ lowest s.memory s.tags s.places s.selection s.next) where
+              turn : (kind : Option (ℕ × Place)) → told ≡ kind → hand_out s.reader.cursor found kind ≡ decide input s
               unfolding waiting
               turn kind e = ap (hand_out s.reader.cursor found) (sym e ∙ low) ∙ sym tested
 
-              pub hands_out : (number : ℕ) (place : Place) → told ≡ Tag number place
+              pub hands_out : (number : ℕ) (place : Place) → told ≡ tag_at number place
                   → Aim record { number = number; place = place; code = 0x22; first = 0; pl = 0; behind = s.reader.cursor } ≡ decide input s
               unfolding hand_out
-              hands_out number place e = turn (Tag number place) e
+              hands_out number place e = turn (tag_at number place) e
 
-              pub hands_none : told ≡ NoTag → (job : Job) → job ≡ found → job ≡ decide input s
+              pub hands_none : told ≡ no_tag → (job : Job) → job ≡ found → job ≡ decide input s
               unfolding hand_out
-              hands_none e job is = is ∙ turn NoTag e
+              hands_none e job is = is ∙ turn no_tag e

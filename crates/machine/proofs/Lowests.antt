@@ -5,13 +5,12 @@ use mathlib.Core.List.{List}
 use mathlib.Core.Path.{◌≡◌, refl, sym, subst}
 use native.Mathlib.Omega.{arith}
 use Rattle.image.specs.Image.{good}
-use Rattle.population.proofs.Firsts.{NonePasses}
+use Rattle.population.proofs.Firsts.{NonePasses, same_tags}
 use Rattle.population.proofs.GoodPopulations.{PopulationFacts, population_facts}
 use Rattle.population.proofs.Selects.{lowest_cases}
-use Rattle.population.specs.Lowest.{selected_at, lowest}
+use Rattle.population.specs.Lowest.{selected_at, lowest, tag_at}
 use Rattle.population.specs.Places.{place_at, inside, image_at, good_population}
-use Rattle.population.specs.declared.lowest.Lowest.{Lowest}
-use Rattle.population.specs.declared.lowest.Lowest.TheVariants.{Tag}
+use Rattle.std.specs.Prelude.{Option}
 use Rattle.population.specs.declared.places.Place.{Place}
 
 module _ (memory : List ℕ) (tags : ℕ) (places : List Place) (selection : List ℕ) (start : ℕ) where
@@ -22,15 +21,14 @@ module _ (memory : List ℕ) (tags : ℕ) (places : List Place) (selection : Lis
     pub passes : selected_at memory selection places n ≡ true
     pub none_before : NonePasses (selected_at memory selection places) start n
 
-  pub the_lowest : tags ≤ 16 → (n : ℕ) (p : Place) → lowest memory tags places selection start ≡ Tag n p → TheLowest n p
+  pub the_lowest : tags ≤ 16 → (n : ℕ) (p : Place) → lowest memory tags places selection start ≡ tag_at n p → TheLowest n p
   the_lowest few n p =
-      lowest_cases memory tags places selection start few (λ (r : Lowest). r ≡ Tag n p → TheLowest n p)
+      lowest_cases memory tags places selection start few (λ (r : Option (ℕ × Place)). r ≡ tag_at n p → TheLowest n p)
       (λ none e. let z : ◌≡◌ {A = ℕ} 0 1 = cc in absurd (omega arith))
       (λ k l m passes none e.
-      let same : k ≡ n = cc in
-      let here : place_at places k ≡ p = cc in
-      subst (λ (q : Place). TheLowest n q) here
-      (subst (λ (j : ℕ). TheLowest j (place_at places k)) same
+      let same : (k ≡ n) × (place_at places k ≡ p) = same_tags k n (place_at places k) p e in
+      subst (λ (q : Place). TheLowest n q) same.1
+      (subst (λ (j : ℕ). TheLowest j (place_at places k)) same.0
       record { from_start = l; one_of = m; at_place = refl; passes = passes; none_before = none }))
 
   -- its image stands in the memory, and is good

@@ -36,11 +36,10 @@ use Rattle.frame.specs.declared.finding.Found.{Found}
 use Rattle.frame.specs.declared.finding.Found.TheVariants.{End, Drop, Wait, Accept}
 use Rattle.frame.specs.declared.finding.Reason.{Reason}
 use Rattle.population.proofs.GoodPopulations.{population_facts, population_holds}
-use Rattle.population.specs.Lowest.{lowest}
+use Rattle.population.specs.Lowest.{lowest, no_tag}
 use Rattle.population.specs.Places.{place_at, image_at, good_population}
 use Rattle.population.specs.Selections.{taken, good_selection}
-use Rattle.population.specs.declared.lowest.Lowest.{Lowest}
-use Rattle.population.specs.declared.lowest.Lowest.TheVariants.{NoTag}
+use Rattle.std.specs.Prelude.{Option}
 use Rattle.population.specs.declared.places.Place.{Place}
 use Rattle.reader.specs.declared.state.Reader.{Reader}
 use Rattle.tag.specs.Errors.{Verdict}
@@ -153,7 +152,7 @@ module _ (tags : ℕ) (places : List Place) (differs : ℕ → Bool) (a b : List
       same_found cursor (Drop why) = refl
       same_found cursor Wait = refl
       same_found cursor (Accept pl) =
-          ap (λ (l : Lowest). pick (eqb (code_at input cursor) 0x0C) (Select pl) (aim_job input cursor pl l)) (low 0)
+          ap (λ (l : Option (ℕ × Place)). pick (eqb (code_at input cursor) 0x0C) (Select pl) (aim_job input cursor pl l)) (low 0)
 
       same_turn : hand_out reader.cursor (find_job input n tags places selection reader.cursor) (lowest n tags places selection next)
           ≡ hand_out reader.cursor (find_job input m tags places selection reader.cursor) (lowest m tags places selection next)
@@ -172,7 +171,7 @@ module _ (tags : ℕ) (places : List Place) (differs : ℕ → Bool) (a b : List
     -- ---- and it comes to the same
 
     -- a command for a tag, at the cursor, is among those accepted
-    accepts : (input : List ℕ) (g : Aimed) → decide input s ≡ Aim g → waiting s ≡ NoTag
+    accepts : (input : List ℕ) (g : Aimed) → decide input s ≡ Aim g → waiting s ≡ no_tag
         → accepted_by (call input) s ≡ record { code = code_in (drop reader.cursor input); parameters = parameters_in (drop reader.cursor input) } ∷ []
     unfolding accepted_by step carried_out aimed acted number_of is_none input_of rest_of
     accepts input g e none = simp (e, none, pick_true)

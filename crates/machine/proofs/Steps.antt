@@ -27,11 +27,10 @@ use Rattle.frame.specs.declared.finding.Found.{Found}
 use Rattle.frame.specs.declared.finding.Found.TheVariants.{Drop}
 use Rattle.frame.specs.declared.finding.Reason.{Reason}
 use Rattle.population.proofs.GoodPopulations.{population_facts}
-use Rattle.population.specs.Lowest.{lowest}
+use Rattle.population.specs.Lowest.{lowest, no_tag, tag_at}
 use Rattle.population.specs.Places.{good_population}
 use Rattle.population.specs.Selections.{good_selection}
-use Rattle.population.specs.declared.lowest.Lowest.{Lowest}
-use Rattle.population.specs.declared.lowest.Lowest.TheVariants.{NoTag, Tag}
+use Rattle.std.specs.Prelude.{Option, None, Some}
 use Rattle.population.specs.declared.places.Place.{Place}
 use Rattle.reader.specs.Tallies.{full}
 use Rattle.tag.specs.Commands.{parse}
@@ -45,7 +44,7 @@ pub record Tested (input : List ℕ) (s : State) : Type 0 where
   pub not_full : full s.reader.tally ≡ false
 
 -- the tag that an accepted command is for, and the two jobs for one tag: handing it out, and the command at the cursor
-abbrev pub lowest_tag : State → Lowest
+abbrev pub lowest_tag : State → Option (ℕ × Place)
 lowest_tag s = lowest s.memory s.tags s.places s.selection 0
 
 abbrev pub hand_out_at : State → ℕ → Place → Aimed
@@ -68,12 +67,12 @@ error_at input s pl = error_without (parse (code_at input s.reader.cursor) (para
 -- an accepted command, with no tag left to hand out
 pub record Accepts (input : List ℕ) (s : State) (pl : ℕ) : Type 0 where
   pub tested : Tested input s
-  pub none_waits : waiting s ≡ NoTag
+  pub none_waits : waiting s ≡ no_tag
   pub accepts : Accepted commands (drop s.reader.cursor input) pl
 
-lowest_kinds : (P : Lowest → Type 0) (r : Lowest) → (r ≡ NoTag → P NoTag) → ((n : ℕ) (p : Place) → r ≡ Tag n p → P (Tag n p)) → P r
-lowest_kinds P NoTag none one = none refl
-lowest_kinds P (Tag n p) none one = one n p refl
+lowest_kinds : (P : Option (ℕ × Place) → Type 0) (r : Option (ℕ × Place)) → (r ≡ no_tag → P no_tag) → ((n : ℕ) (p : Place) → r ≡ tag_at n p → P (tag_at n p)) → P r
+lowest_kinds P None none one = none refl
+lowest_kinds P (Some (n, p)) none one = one n p refl
 
 module _ (input : List ℕ) (s : State) (P : Job → Type 0) where
   abbrev rest : List ℕ
@@ -82,29 +81,29 @@ module _ (input : List ℕ) (s : State) (P : Job → Type 0) where
   -- every job of an accepted command
   command_cases : (pl : ℕ)
       → (code_at input s.reader.cursor ≡ 0x0C → P (Select pl))
-      → (code_at input s.reader.cursor ≢ 0x0C → lowest_tag s ≡ NoTag → P (Miss (error_at input s pl) pl))
-      → (code_at input s.reader.cursor ≢ 0x0C → (n : ℕ) (p : Place) → lowest_tag s ≡ Tag n p → P (Aim (command_at input s pl n p)))
+      → (code_at input s.reader.cursor ≢ 0x0C → lowest_tag s ≡ no_tag → P (Miss (error_at input s pl) pl))
+      → (code_at input s.reader.cursor ≢ 0x0C → (n : ℕ) (p : Place) → lowest_tag s ≡ tag_at n p → P (Aim (command_at input s pl n p)))
       → P (command_job input s.memory s.tags s.places s.selection s.reader.cursor pl)
   unfolding command_job aim_job
   command_cases pl selects misses aims =
       by_test P (eqb (code_at input s.reader.cursor) 0x0C) (λ e. selects (eqb-true _ _ e)) λ other.
-      lowest_kinds (λ (r : Lowest). P (aim_job input s.reader.cursor pl r)) (lowest_tag s) (misses (eqb-false _ _ other)) (aims (eqb-false _ _ other))
+      lowest_kinds (λ (r : Option (ℕ × Place)). P (aim_job input s.reader.cursor pl r)) (lowest_tag s) (misses (eqb-false _ _ other)) (aims (eqb-false _ _ other))
 
   -- every job where no test refuses
   pub tested_cases : Tested input s
-      → (waiting s ≡ NoTag → P (Stay AtEnd))
-      → (waiting s ≡ NoTag → P (Stay Incomplete))
-      → ((n : ℕ) (p : Place) → waiting s ≡ Tag n p → P (Aim (hand_out_at s n p)))
-      → (waiting s ≡ NoTag → (r : Reason) → find commands rest ≡ Drop r → 1 ≤ length rest → P (DropByte r))
+      → (waiting s ≡ no_tag → P (Stay AtEnd))
+      → (waiting s ≡ no_tag → P (Stay Incomplete))
+      → ((n : ℕ) (p : Place) → waiting s ≡ tag_at n p → P (Aim (hand_out_at s n p)))
+      → (waiting s ≡ no_tag → (r : Reason) → find commands rest ≡ Drop r → 1 ≤ length rest → P (DropByte r))
       → ((pl : ℕ) → Accepts input s pl → code_at input s.reader.cursor ≡ 0x0C → P (Select pl))
-      → ((pl : ℕ) → Accepts input s pl → code_at input s.reader.cursor ≢ 0x0C → lowest_tag s ≡ NoTag → P (Miss (error_at input s pl) pl))
-      → ((pl : ℕ) → Accepts input s pl → code_at input s.reader.cursor ≢ 0x0C → (n : ℕ) (p : Place) → lowest_tag s ≡ Tag n p
+      → ((pl : ℕ) → Accepts input s pl → code_at input s.reader.cursor ≢ 0x0C → lowest_tag s ≡ no_tag → P (Miss (error_at input s pl) pl))
+      → ((pl : ℕ) → Accepts input s pl → code_at input s.reader.cursor ≢ 0x0C → (n : ℕ) (p : Place) → lowest_tag s ≡ tag_at n p
       → P (Aim (command_at input s pl n p)))
       → P (hand_out s.reader.cursor (find_job input s.memory s.tags s.places s.selection s.reader.cursor) (waiting s))
   unfolding hand_out find_job found_job
   tested_cases t at_end incomplete hands drops selects misses aims =
       lowest_kinds
-      (λ (r : Lowest).
+      (λ (r : Option (ℕ × Place)).
       P (hand_out s.reader.cursor (find_job input s.memory s.tags s.places s.selection s.reader.cursor) r))
       (waiting s)
       (λ none.
@@ -116,11 +115,11 @@ module _ (input : List ℕ) (s : State) (P : Job → Type 0) where
       hands
 
   pub job_cases : ((o : Outcome) → number_of o ≢ 0 → number_of o ≢ 3 → P (Stay o))
-      → (Tested input s → (n : ℕ) (p : Place) → waiting s ≡ Tag n p → P (Aim (hand_out_at s n p)))
-      → (Tested input s → waiting s ≡ NoTag → (r : Reason) → find commands rest ≡ Drop r → 1 ≤ length rest → P (DropByte r))
+      → (Tested input s → (n : ℕ) (p : Place) → waiting s ≡ tag_at n p → P (Aim (hand_out_at s n p)))
+      → (Tested input s → waiting s ≡ no_tag → (r : Reason) → find commands rest ≡ Drop r → 1 ≤ length rest → P (DropByte r))
       → ((pl : ℕ) → Accepts input s pl → code_at input s.reader.cursor ≡ 0x0C → P (Select pl))
-      → ((pl : ℕ) → Accepts input s pl → code_at input s.reader.cursor ≢ 0x0C → lowest_tag s ≡ NoTag → P (Miss (error_at input s pl) pl))
-      → ((pl : ℕ) → Accepts input s pl → code_at input s.reader.cursor ≢ 0x0C → (n : ℕ) (p : Place) → lowest_tag s ≡ Tag n p
+      → ((pl : ℕ) → Accepts input s pl → code_at input s.reader.cursor ≢ 0x0C → lowest_tag s ≡ no_tag → P (Miss (error_at input s pl) pl))
+      → ((pl : ℕ) → Accepts input s pl → code_at input s.reader.cursor ≢ 0x0C → (n : ℕ) (p : Place) → lowest_tag s ≡ tag_at n p
       → P (Aim (command_at input s pl n p)))
       → P (decide input s)
   unfolding decide number_of longest_answer
@@ -145,7 +144,7 @@ module _ (input : List ℕ) (s : State) (P : Job → Type 0) where
 
 module _ (input : List ℕ) (s : State) where
   -- a tag that was found
-  pub found_tag : Tested input s → (start n : ℕ) (p : Place) → lowest s.memory s.tags s.places s.selection start ≡ Tag n p
+  pub found_tag : Tested input s → (start n : ℕ) (p : Place) → lowest s.memory s.tags s.places s.selection start ≡ tag_at n p
       → TheLowest s.memory s.tags s.places s.selection start n p
   found_tag t start n p e =
       the_lowest s.memory s.tags s.places s.selection start (population_facts s.memory s.tags s.places t.population_good).few n p e
@@ -164,12 +163,12 @@ module _ (c : Call) (s : State) (P : Step → Type 0) where
   behind pl = s.reader.cursor + frame_length pl
 
   pub step_cases : ((o : Outcome) → number_of o ≢ 0 → number_of o ≢ 3 → P (unchanged s o))
-      → (Tested (input_of c) s → (n : ℕ) (p : Place) → waiting s ≡ Tag n p → P (aimed s (hand_out_at s n p) []))
-      → (Tested (input_of c) s → waiting s ≡ NoTag → (r : Reason) → find commands (rest_of c s) ≡ Drop r → 1 ≤ length (rest_of c s) → P (dropped s r))
+      → (Tested (input_of c) s → (n : ℕ) (p : Place) → waiting s ≡ tag_at n p → P (aimed s (hand_out_at s n p) []))
+      → (Tested (input_of c) s → waiting s ≡ no_tag → (r : Reason) → find commands (rest_of c s) ≡ Drop r → 1 ≤ length (rest_of c s) → P (dropped s r))
       → ((pl : ℕ) → Accepts (input_of c) s pl → code_at (input_of c) s.reader.cursor ≡ 0x0C → P (selecting s (given pl) (behind pl)))
-      → ((pl : ℕ) → Accepts (input_of c) s pl → code_at (input_of c) s.reader.cursor ≢ 0x0C → lowest_tag s ≡ NoTag
+      → ((pl : ℕ) → Accepts (input_of c) s pl → code_at (input_of c) s.reader.cursor ≢ 0x0C → lowest_tag s ≡ no_tag
       → P (missed s (error_at (input_of c) s pl) (behind pl)))
-      → ((pl : ℕ) → Accepts (input_of c) s pl → code_at (input_of c) s.reader.cursor ≢ 0x0C → (n : ℕ) (p : Place) → lowest_tag s ≡ Tag n p
+      → ((pl : ℕ) → Accepts (input_of c) s pl → code_at (input_of c) s.reader.cursor ≢ 0x0C → (n : ℕ) (p : Place) → lowest_tag s ≡ tag_at n p
       → P (aimed s (command_at (input_of c) s pl n p) (given pl)))
       → P (step c s)
   unfolding step carried_out rest_of parameters_at part

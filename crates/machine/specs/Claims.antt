@@ -11,12 +11,11 @@ use Rattle.frame.specs.Bytes.{pick, first_of, byte, number, part, two_bytes}
 use Rattle.frame.specs.Frames.{sum}
 use Rattle.image.specs.Image.{view, bank_of, end_of, kill_password, access_password}
 use Rattle.population.specs.Claims.{Holds, place_of_tag, image_of, LowestRules}
-use Rattle.population.specs.Lowest.{lowest}
+use Rattle.population.specs.Lowest.{lowest, no_tag, tag_at}
 use Rattle.population.specs.Matching.{matches}
 use Rattle.population.specs.Places.{good_population}
 use Rattle.population.specs.Selections.{taken, good_selection}
-use Rattle.population.specs.declared.lowest.Lowest.{Lowest}
-use Rattle.population.specs.declared.lowest.Lowest.TheVariants.{NoTag, Tag}
+use Rattle.std.specs.Prelude.{Option, None, Some}
 use Rattle.population.specs.declared.places.Place.{Place}
 use Rattle.reader.specs.Readers.{fresh_reader}
 use Rattle.tag.specs.Claims.{comes_to, framed}
@@ -110,8 +109,8 @@ pub record OneFrame (c : Call) (s : State) (x : Step) : Type 0 where
   pub behind_stays : drop x.length x.next.output ≡ drop x.length s.output
   pub room_stays : length x.next.output ≡ length s.output
   pub in_the_output : x.length ≤ length x.next.output
-  pub over_the_command : waiting s ≡ NoTag → x.next.reader.cursor ≡ s.reader.cursor + (7 + number (rest_of c s) 3)
-  pub stays_with_a_tag : (n : ℕ) (p : Place) → waiting s ≡ Tag n p → x.next.reader.cursor ≡ s.reader.cursor
+  pub over_the_command : waiting s ≡ no_tag → x.next.reader.cursor ≡ s.reader.cursor + (7 + number (rest_of c s) 3)
+  pub stays_with_a_tag : (n : ℕ) (p : Place) → waiting s ≡ tag_at n p → x.next.reader.cursor ≡ s.reader.cursor
   pub not_past_the_end : x.next.reader.cursor ≤ length (input_of c)
 
 abbrev pub AnswerIsOneFrame : Type 0
@@ -146,7 +145,7 @@ pub record HandsOut (s : State) (n : ℕ) (p : Place) (x : Step) : Type 0 where
   pub behind_it : x.next.next ≡ n + 1
 
 abbrev pub HandOut : Type 0
-HandOut = (c : Call) (s : State) (n : ℕ) (p : Place) → waiting s ≡ Tag n p → answer_of c s ≡ 0 → HandsOut s n p (step c s)
+HandOut = (c : Call) (s : State) (n : ℕ) (p : Place) → waiting s ≡ tag_at n p → answer_of c s ≡ 0 → HandsOut s n p (step c s)
 
 -- the numbers from i on, k of them, that pass a test
 unfoldable pub passing : (ℕ → Bool) → ℕ → ℕ → List ℕ
@@ -161,9 +160,9 @@ is_candidate s i =
 unfoldable pub candidates : State → ℕ → List ℕ
 candidates s start = passing (is_candidate s) start (s.tags - start)
 
-unfoldable pub number_in : Lowest → List ℕ
-number_in NoTag = []
-number_in (Tag number place) = number ∷ []
+unfoldable pub number_in : Option (ℕ × Place) → List ℕ
+number_in None = []
+number_in (Some (number, place)) = number ∷ []
 
 -- the numbers that a list of calls hands out: a call that answers 0 while a tag is still to hand out
 unfoldable pub handed_by : Call → State → List ℕ
@@ -187,8 +186,8 @@ abbrev pub InventoryStarts : Type 0
 InventoryStarts =
     (c : Call) (s : State) (n : ℕ) (p : Place)
     → answer_of c s ≡ 0
-    → waiting s ≡ NoTag
-    → lowest s.memory s.tags s.places s.selection 0 ≡ Tag n p
+    → waiting s ≡ no_tag
+    → lowest s.memory s.tags s.places s.selection 0 ≡ tag_at n p
     → byte (rest_of c s) 2 ≡ 0x22
     → number (rest_of c s) 3 ≡ 0
     → n ∷ candidates (step c s).next (step c s).next.next ≡ candidates s 0
@@ -197,7 +196,7 @@ InventoryStarts =
 
 -- "A command is accepted if finding rule 7 accepts it and the call answers 0", with none still to hand out: the cursor moves over it
 abbrev pub Accepting : Call → State → Type 0
-Accepting c s = (answer_of c s ≡ 0) × (waiting s ≡ NoTag)
+Accepting c s = (answer_of c s ≡ 0) × (waiting s ≡ no_tag)
 
 -- its code and its parameters, as they stand in the frame
 abbrev pub code_of : Call → State → ℕ
@@ -219,7 +218,7 @@ CommandsAim =
     (c : Call) (s : State) (n : ℕ) (p : Place)
     → Accepting c s
     → code_of c s ≢ 0x0C
-    → lowest s.memory s.tags s.places s.selection 0 ≡ Tag n p
+    → lowest s.memory s.tags s.places s.selection 0 ≡ tag_at n p
     → CarriedOutAt c s n p (step c s)
 
 -- "or answer as with no tag": as any tag does that is killed or out of the field, and nothing is stored
@@ -235,7 +234,7 @@ CommandsMiss =
     (c : Call) (s : State)
     → Accepting c s
     → code_of c s ≢ 0x0C
-    → lowest s.memory s.tags s.places s.selection 0 ≡ NoTag
+    → lowest s.memory s.tags s.places s.selection 0 ≡ no_tag
     → AnsweredWithout c s (step c s)
 
 -- Set Select "answers 00", and its parameters become the selection; "anything else, or the Reserved bank, is plain 17", and the selection stays. It looks at no tag.
@@ -260,7 +259,7 @@ Starred = (map given cases ≡ map expected cases) × (length cases ≡ 15)
 
 -- a command that is aimed at tag n, at the place p; the frame and the image that it comes to there
 abbrev pub AimedAt : Call → State → ℕ → Place → Type 0
-AimedAt c s n p = Accepting c s × (lowest s.memory s.tags s.places s.selection 0 ≡ Tag n p)
+AimedAt c s n p = Accepting c s × (lowest s.memory s.tags s.places s.selection 0 ≡ tag_at n p)
 
 abbrev pub made_at : Place → Step → List ℕ × List ℕ
 made_at p x = (take x.length x.next.output, image_of x.next.memory p)
@@ -396,7 +395,7 @@ Bound =
     → good_selection s.selection ≡ true
     → good_population s.memory s.tags s.places ≡ true
     → 136 ≤ length s.output
-    → waiting s ≡ NoTag
+    → waiting s ≡ no_tag
     → (k : ℕ)
     × (k ≤ length input + 15 * inventories (accepted (replicate k (call input)) s))
     × (count takes (run (replicate k (call input)) s) ≡ k)

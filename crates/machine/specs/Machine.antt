@@ -19,8 +19,7 @@ use Rattle.population.specs.Executing.{replaced}
 use Rattle.population.specs.Lowest.{lowest}
 use Rattle.population.specs.Places.{image_at, good_population}
 use Rattle.population.specs.Selections.{taken, good_selection}
-use Rattle.population.specs.declared.lowest.Lowest.{Lowest}
-use Rattle.population.specs.declared.lowest.Lowest.TheVariants.{NoTag, Tag}
+use Rattle.std.specs.Prelude.{Option, None, Some}
 use Rattle.population.specs.declared.places.Place.{Place}
 use Rattle.reader.specs.Tallies.{full, with_good, with_error, with_dropped}
 use Rattle.reader.specs.declared.state.Reader.{Reader}
@@ -76,9 +75,9 @@ error_without (Lock password mask action) = 0x13
 error_without (Kill password) = 0x12
 
 -- "Read, Write, Lock and Kill go to the lowest-numbered present tag that matches", and so does an inventory, which hands it out
-unfoldable pub aim_job : List ℕ → ℕ → ℕ → Lowest → Job
-aim_job input cursor pl NoTag = Miss (error_without (parse (code_at input cursor) (parameters_at input cursor pl))) pl
-aim_job input cursor pl (Tag number place) =
+unfoldable pub aim_job : List ℕ → ℕ → ℕ → Option (ℕ × Place) → Job
+aim_job input cursor pl None = Miss (error_without (parse (code_at input cursor) (parameters_at input cursor pl))) pl
+aim_job input cursor pl (Some (number, place)) =
     Aim
     record { number = number; place = place; code = code_at input cursor; first = cursor + 5; pl = pl; behind = cursor + frame_length pl }
 
@@ -99,13 +98,13 @@ find_job input memory tags places selection cursor =
 
 -- "Inventory hands out each matching present tag exactly once, in rising number, one per call, then takes the next command": an inventory with no
 -- parameters at that tag. "The cursor moves with the first of them only".
-unfoldable pub hand_out : ℕ → Job → Lowest → Job
-hand_out cursor else NoTag = else
-hand_out cursor else (Tag number place) =
+unfoldable pub hand_out : ℕ → Job → Option (ℕ × Place) → Job
+hand_out cursor else None = else
+hand_out cursor else (Some (number, place)) =
     Aim record { number = number; place = place; code = 0x22; first = 0; pl = 0; behind = cursor }
 
 -- "one no longer present and matching at its turn is passed over"
-unfoldable pub waiting : State → Lowest
+unfoldable pub waiting : State → Option (ℕ × Place)
 waiting s = lowest s.memory s.tags s.places s.selection s.next
 
 -- "Tests in the order 10, 11, 12, 13, then the finding rules"; "a selection that is neither empty nor one that Set Select takes" is among those that "make it
@@ -221,9 +220,9 @@ step_unless full c s = carried_out (input_of c) s (unless full (decide (input_of
 
 -- Each answer 0 or 3 lowers this, so that it bounds the calls that take something: a byte that is left; 15 for each inventory that may still come, which has seven
 -- bytes, and answers with one tag itself; and the tags that may still be handed out.
-unfoldable pub tags_left : Lowest → ℕ
-tags_left NoTag = 0
-tags_left (Tag number place) = 16 - number
+unfoldable pub tags_left : Option (ℕ × Place) → ℕ
+tags_left None = 0
+tags_left (Some (number, place)) = 16 - number
 
 unfoldable pub bytes_left : List ℕ → State → ℕ
 bytes_left input s = length input - s.reader.cursor

@@ -6,13 +6,12 @@ use Rattle.machine.specs.Machine.{State, Call, Step, waiting, step, rest_of}
 use Rattle.frame.specs.Bytes.{pick, byte, part}
 use Rattle.frame.specs.Formats.{code_in, parameters_in}
 use Rattle.population.specs.Claims.{Holds, place_of_tag, image_of}
-use Rattle.population.specs.declared.lowest.Lowest.{Lowest}
-use Rattle.population.specs.declared.lowest.Lowest.TheVariants.{NoTag, Tag}
+use Rattle.std.specs.Prelude.{Option, None, Some}
 use Rattle.population.specs.declared.places.Place.{Place}
 
-unfoldable pub is_none : Lowest → Bool
-is_none NoTag = true
-is_none (Tag n p) = false
+unfoldable pub is_none : Option (ℕ × Place) → Bool
+is_none None = true
+is_none (Some (n, p)) = false
 
 -- "A command is accepted if finding rule 7 accepts it and the call answers 0." A call that hands out a tag answers 0 before the finding rules: what stands
 -- at the cursor then is not accepted.

@@ -2,16 +2,16 @@
 // Nothing is changed here.
 ghost use Rattle.std.specs.Prelude.{◌≡◌, ◌+◌, ◌≤◌, length};
 ghost use Rattle.machine.specs.Lent.{selection_in};
-ghost use Rattle.machine.specs.Machine.{state_of, command_job, find_job, decide, unless};
+ghost use Rattle.machine.specs.Machine.{state_of, code_at, command_job, find_job, decide, unless};
 
 use crate::absent::error_without;
+use frame::bytes::byte_at;
 use frame::finding::{Found, Reason, find};
 use frame::layout;
-use population::lowest::{Lowest, find_lowest};
-use population::places::{Place, is_good_population};
+use population::places::{Place, Population};
 use population::selection::is_good_selection;
 use reader::outcome::Outcome;
-use reader::state::Reader;
+use reader::state::BenchState;
 
 // A command for one tag: its `pl` parameter bytes stand from `first` on, and the cursor goes to `behind`.
 #[derive(Clone, Copy)]
@@ -39,31 +39,40 @@ pub enum Job {
     Aim(Aimed),
 }
 
+// The code of the frame at the cursor; behind the end of the input stands 0.
+pub fn code_at(input: &[u8], cursor: usize) -> u8
+    ensures { result ≡ code_at input.now cursor }
+{
+    if input.len() <= cursor {
+        return 0;
+    }
+    byte_at(input, cursor + layout::CODE)
+}
+
 // The command at the cursor, with `pl` parameter bytes, was accepted.
 fn command_job(
     input: &[u8],
     memory: &[u8],
     selection: &[u8],
-    places: [Place; 16],
-    tags: usize,
+    population: &Population,
     cursor: usize,
     pl: usize,
 ) -> Job
     requires { cursor + (7 + pl) ≤ length input.now }
-    ensures { result ≡ command_job input.now memory.now tags places selection.now cursor pl }
+    ensures { result
+        ≡ command_job input.now memory.now population.now.tags population.now.places selection.now cursor pl }
 {
     let code = input[cursor + layout::CODE];
     if code == 0x0c {
         return Job::Select(pl);
     }
     let first = cursor + layout::PARAMETERS;
-    let lowest = find_lowest(memory, tags, places, selection, 0);
-    match lowest {
-        Lowest::NoTag => Job::Miss {
+    match population.lowest(memory, selection, 0) {
+        None => Job::Miss {
             error: error_without(code, &input[first..first + pl]),
             pl,
         },
-        Lowest::Tag { number, place } => Job::Aim(Aimed {
+        Some((number, place)) => Job::Aim(Aimed {
             number,
             place,
             code,
@@ -79,72 +88,56 @@ fn find_job(
     input: &[u8],
     memory: &[u8],
     selection: &[u8],
-    places: [Place; 16],
-    tags: usize,
+    population: &Population,
     cursor: usize,
 ) -> Job
     requires { cursor ≤ length input.now }
-    ensures { result ≡ find_job input.now memory.now tags places selection.now cursor }
+    ensures { result ≡ find_job input.now memory.now population.now.tags population.now.places selection.now cursor }
 {
-    let found = find(&input[cursor..]);
-    match found {
+    match find(&input[cursor..]) {
         Found::End => Job::Stay(Outcome::AtEnd),
         Found::Wait => Job::Stay(Outcome::Incomplete),
         Found::Drop(reason) => Job::DropByte(reason),
-        Found::Accept(pl) => command_job(input, memory, selection, places, tags, cursor, pl),
+        Found::Accept(pl) => command_job(input, memory, selection, population, cursor, pl),
     }
 }
 
-// For any input, memory, output, selection, places and reader. `full` says that no record of a failure has room: then whatever is not refused before is.
+// For any input, memory, output, selection, population and state. `full` says that no record of a failure has room: then whatever is not refused before is.
 pub fn decide(
     input: &[u8],
     memory: &[u8],
     output: &[u8],
     selection: &[u8; 39],
-    places: [Place; 16],
-    tags: usize,
-    reader: Reader,
-    next: usize,
-    count: usize,
+    population: &Population,
+    state: BenchState,
     full: bool,
 ) -> Job
     ensures { result
         ≡ unless full
         (decide input.now
-        (state_of memory.now places tags (selection_in selection.now count) output.now reader next)) }
+        (state_of memory.now population.now.places population.now.tags (selection_in selection.now state.selected) output.now state.reader state.next)) }
 {
-    let cursor = reader.cursor;
-    let tally = reader.tally;
+    let cursor = state.reader.cursor;
     if input.len() < cursor {
         return Job::Stay(Outcome::PastEnd);
     }
-    if 39 < count {
+    let Some(selected) = selection.get(..state.selected) else {
         return Job::Stay(Outcome::BadImage);
-    }
-    let whole = &selection[..];
-    let selected = &whole[0..count];
-    if !is_good_selection(selected) {
-        return Job::Stay(Outcome::BadImage);
-    }
-    if !is_good_population(memory, tags, places) {
+    };
+    if !is_good_selection(selected) || !population.is_good(memory) {
         return Job::Stay(Outcome::BadImage);
     }
     if output.len() < 136 {
         return Job::Stay(Outcome::ShortOutput);
     }
-    if tally.is_full() {
+    if state.reader.tally.is_full() {
         return Job::Stay(Outcome::FullTally);
     }
     if full {
         return Job::Stay(Outcome::FullList);
     }
-    // No tag is left to hand out, as at most calls.
-    if tags <= next {
-        return find_job(input, memory, selected, places, tags, cursor);
-    }
-    let waiting = find_lowest(memory, tags, places, selected, next);
-    match waiting {
-        Lowest::Tag { number, place } => Job::Aim(Aimed {
+    match population.lowest(memory, selected, state.next) {
+        Some((number, place)) => Job::Aim(Aimed {
             number,
             place,
             code: 0x22,
@@ -152,6 +145,6 @@ pub fn decide(
             pl: 0,
             behind: cursor,
         }),
-        Lowest::NoTag => find_job(input, memory, selected, places, tags, cursor),
+        None => find_job(input, memory, selected, population, cursor),
     }
 }

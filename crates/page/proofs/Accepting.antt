@@ -23,8 +23,8 @@ use Rattle.machine.proofs.Founds.{by_found, by_waiting}
 use Rattle.machine.specs.Claims.{answer_of}
 use Rattle.machine.specs.Machine.{State, call, Step, waiting, input_of, rest_of, step, after}
 use Rattle.machine.specs.Secrecy.{is_none, accepted_by, accepted}
-use Rattle.population.specs.declared.lowest.Lowest.{Lowest}
-use Rattle.population.specs.declared.lowest.Lowest.TheVariants.{NoTag, Tag}
+use Rattle.population.specs.Lowest.{no_tag, tag_at}
+use Rattle.std.specs.Prelude.{Option, None, Some}
 use Rattle.population.specs.declared.places.Place.{Place}
 use Rattle.reader.specs.Outcomes.{number_of}
 use Rattle.reader.specs.declared.outcome.Outcome.{Outcome}
@@ -68,7 +68,7 @@ module _ (input : List ℕ) (s : State) where
   moved n m e = ap commands_in (drop-drop n s.reader.cursor input) ∙ ap (λ (k : ℕ). commands_in (drop k input)) (sym e)
 
   -- a tag that is handed out is no command, and leaves the cursor
-  hands : (n : ℕ) (p : Place) → waiting s ≡ Tag n p → number_of x.outcome ≡ 0 → Counts
+  hands : (n : ℕ) (p : Place) → waiting s ≡ tag_at n p → number_of x.outcome ≡ 0 → Counts
   unfolding is_none
   hands n p some zero_is =
       let stays = (answer_is_one_frame (call input) s zero_is).stays_with_a_tag n p some in
@@ -76,7 +76,7 @@ module _ (input : List ℕ) (s : State) where
       ap (λ (k : ℕ). commands_in (drop k input)) (sym stays) ∙ omega (arith, none)
 
   -- what was found
-  founds : waiting s ≡ NoTag → (f : Found) → find commands rest ≡ f → number_of x.outcome ≡ number_of_found f
+  founds : waiting s ≡ no_tag → (f : Found) → find commands rest ≡ f → number_of x.outcome ≡ number_of_found f
       → (number_of x.outcome ≡ 0) ⊎ (number_of x.outcome ≡ 3) → Counts
   unfolding number_of_found is_none input_of rest_of pl_in
   founds none End e is on = absurd (⊎_elim (λ h. omega arith) (λ h. omega arith) on)
@@ -91,10 +91,10 @@ module _ (input : List ℕ) (s : State) where
       let command = one_accepted (simp (is, none)) in
       (commands_taken rest).accepted pl e ∙ omega (arith, moved (7 + pl) _ (over ∙ omega (arith, read)), command)
 
-  by_low : (low : Lowest) → waiting s ≡ low → (number_of x.outcome ≡ 0) ⊎ (number_of x.outcome ≡ 3) → Counts
-  by_low NoTag none on =
+  by_low : (low : Option (ℕ × Place)) → waiting s ≡ low → (number_of x.outcome ≡ 0) ⊎ (number_of x.outcome ≡ 3) → Counts
+  by_low None none on =
       founds none (find commands rest) refl (by_found input s none (⊎_elim (λ h. omega arith) (λ h. omega arith) on)) on
-  by_low (Tag n p) some on = hands n p some (by_waiting input s n p some (⊎_elim (λ h. omega arith) (λ h. omega arith) on))
+  by_low (Some (n, p)) some on = hands n p some (by_waiting input s n p some (⊎_elim (λ h. omega arith) (λ h. omega arith) on))
 
   pub one_call : ends x.outcome ≡ false → Counts
   one_call more = by_low (waiting s) refl (on_number x.outcome more)
@@ -108,11 +108,11 @@ module _ (input : List ℕ) (s : State) where
   none_found (Drop r) e is = absurd (⊎_elim (λ h. omega arith) (λ h. omega arith) is)
   none_found (Accept pl) e is = absurd (⊎_elim (λ h. omega arith) (λ h. omega arith) is)
 
-  last_low : (low : Lowest) → waiting s ≡ low → (number_of x.outcome ≡ 1) ⊎ (number_of x.outcome ≡ 2) → commands_in rest ≡ 0
-  last_low NoTag none is =
+  last_low : (low : Option (ℕ × Place)) → waiting s ≡ low → (number_of x.outcome ≡ 1) ⊎ (number_of x.outcome ≡ 2) → commands_in rest ≡ 0
+  last_low None none is =
       let found = by_found input s none (⊎_elim (λ h. omega arith) (λ h. omega arith) is) in
       none_found (find commands rest) refl (⊎_elim (λ h. inl (sym found ∙ h)) (λ h. inr (sym found ∙ h)) is)
-  last_low (Tag n p) some is =
+  last_low (Some (n, p)) some is =
       let answers = by_waiting input s n p some (⊎_elim (λ h. omega arith) (λ h. omega arith) is) in
       absurd (⊎_elim (λ h. omega arith) (λ h. omega arith) is)
 

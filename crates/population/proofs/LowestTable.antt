@@ -8,15 +8,14 @@ use mathlib.Core.Path.{◌≡◌, refl, ap, ap₂, sym, subst, ◌∙◌}
 use native.Mathlib.Omega.{arith}
 use Rattle.frame.proofs.Tests.{and_left, and_right, and_both, either}
 use Rattle.frame.specs.Bytes.{byte}
-use Rattle.population.proofs.Firsts.{NonePasses}
+use Rattle.population.proofs.Firsts.{NonePasses, same_tags}
 use Rattle.population.proofs.GoodPopulations.{PopulationFacts, population_facts}
 use Rattle.population.proofs.Selects.{lowest_cases}
 use Rattle.population.specs.Claims.{place_of_tag, image_of, Candidate, LowestRules, LowestTag}
-use Rattle.population.specs.Lowest.{selected_image, selected, selected_at, lowest}
+use Rattle.population.specs.Lowest.{tag_at, selected_image, selected, selected_at, lowest}
 use Rattle.population.specs.Matching.{matches}
 use Rattle.population.specs.Places.{place_at, inside, image_at}
-use Rattle.population.specs.declared.lowest.Lowest.{Lowest}
-use Rattle.population.specs.declared.lowest.Lowest.TheVariants.{NoTag, Tag}
+use Rattle.std.specs.Prelude.{Option, None, Some}
 use Rattle.population.specs.declared.places.Place.{Place}
 
 module _ (memory : List ℕ) (places : List Place) (s : List ℕ) (i : ℕ) where
@@ -36,13 +35,13 @@ module _ (memory : List ℕ) (places : List Place) (s : List ℕ) (i : ℕ) wher
 
 module _ (memory : List ℕ) (tags : ℕ) (places : List Place) (s : List ℕ) (start : ℕ) (g : PopulationFacts memory tags places) where
   -- what is claimed of a result
-  record Claimed (r : Lowest) : Type 0 where
-    told : (n : ℕ) (p : Place) → r ≡ Tag n p → LowestRules memory tags places s start n p
-    tells : (n : ℕ) (p : Place) → LowestRules memory tags places s start n p → r ≡ Tag n p
-    none_told : r ≡ NoTag → (i : ℕ) → start ≤ i → i < tags → Candidate memory places s i → ⊥
-    none_tells : ((i : ℕ) → start ≤ i → i < tags → Candidate memory places s i → ⊥) → r ≡ NoTag
+  record Claimed (r : (Option (ℕ × Place))) : Type 0 where
+    told : (n : ℕ) (p : Place) → r ≡ Some (n, p) → LowestRules memory tags places s start n p
+    tells : (n : ℕ) (p : Place) → LowestRules memory tags places s start n p → r ≡ Some (n, p)
+    none_told : r ≡ None → (i : ℕ) → start ≤ i → i < tags → Candidate memory places s i → ⊥
+    none_tells : ((i : ℕ) → start ≤ i → i < tags → Candidate memory places s i → ⊥) → r ≡ None
 
-  no_tag : NonePasses (selected_at memory s places) start tags → Claimed NoTag
+  no_tag : NonePasses (selected_at memory s places) start tags → Claimed None
   no_tag none =
       let no : (i : ℕ) → start ≤ i → i < tags → Candidate memory places s i → ⊥ =
       λ i l m. not_candidate memory places s i (g.within i m) (none i l m)
@@ -77,20 +76,19 @@ module _ (memory : List ℕ) (tags : ℕ) (places : List Place) (s : List ℕ) (
         r.present_and_matching))
         (λ f. omega (arith, leb-false (n + 1) k e, leb-false (k + 1) n f)))
 
-    same_tag : (k : ℕ) (p : Place) → LowestRules memory tags places s start k p → Tag n (place_at places n) ≡ Tag k p
+    same_tag : (k : ℕ) (p : Place) → LowestRules memory tags places s start k p → tag_at n (place_at places n) ≡ tag_at k p
     unfolding place_at
     same_tag k p r =
         let e : n ≡ k = same_number k p r in
-        ap₂ Tag e (ap (place_of_tag places) e ∙ sym r.at_its_place)
+        ap₂ tag_at e (ap (place_of_tag places) e ∙ sym r.at_its_place)
 
-    the_tag : Claimed (Tag n (place_at places n))
+    the_tag : Claimed (Some (n, place_at places n))
     the_tag =
         record {
           told = λ k p e.
-              let a : n ≡ k = cc in
-              let b : place_at places n ≡ p = cc in
-              subst (λ (q : Place). LowestRules memory tags places s start k q) b
-              (subst (λ (j : ℕ). LowestRules memory tags places s start j (place_at places n)) a rules);
+              let both : (n ≡ k) × (place_at places n ≡ p) = same_tags n k (place_at places n) p e in
+              subst (λ (q : Place). LowestRules memory tags places s start k q) both.1
+              (subst (λ (j : ℕ). LowestRules memory tags places s start j (place_at places n)) both.0 rules);
           tells = same_tag;
           none_told = λ e. let z : ◌≡◌ {A = ℕ} 0 1 = cc in absurd (omega arith);
           none_tells = λ h. absurd (h n l m (candidate memory places s n passes));

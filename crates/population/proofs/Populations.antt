@@ -1,13 +1,19 @@
 -- The tests of a good population, as the code comes upon them.
 use Prim.Native.Nat.{ℕ, ◌+◌, ◌-◌, ◌≤◌, ◌<◌}
-use borrow.Author.Tests.{le-leb}
+use borrow.Author.Tests.{le-leb, lt-leb}
+use denote.Bor.{Bor}
 use lib.Dec.{leb}
-use lib.ListN.{take, drop}
-use mathlib.Core.Bool.{Bool, true, false, and-true, and-false}
+use lib.ListN.{length, take, drop}
+use mathlib.Core.Bool.{Bool, true, false, and-false}
 use mathlib.Core.List.{List}
-use mathlib.Core.Path.{◌≡◌, ap, sym, ◌∙◌}
+use mathlib.Core.Path.{◌≡◌, ap, ◌∙◌}
 use native.Mathlib.Omega.{arith}
-use Rattle.frame.specs.Bytes.{part}
+use mathlib.Core.Logic.{◌⊎◌, ⊎_elim}
+use Rattle.frame.proofs.Tests.{either}
+use Rattle.frame.specs.Bytes.{part, reaches}
+use Rattle.std.specs.List.{slice_range}
+use Rattle.std.specs.Option.{MatchOption}
+use Rattle.std.specs.Prelude.{Option, None, Some}
 use Rattle.image.specs.Image.{good}
 use Rattle.population.proofs.Below.{below_not}
 use Rattle.population.specs.Below.{all_below}
@@ -29,26 +35,31 @@ pub apart_else : (p q : Place) (r : Bool) → leb (p.from + p.size) q.from ≡ f
 unfolding apart
 apart_else p q r h e = simp h e
 
+-- what `get` hands out of a place
+pub got : (memory : List ℕ) (p : Place) (e : ℕ) → e ≡ p.from + p.size → (r : Option (Bor (List ℕ)))
+    → MatchOption r ((e < p.from) ⊎ (length memory < e))
+    (λ x. (p.from ≤ e) × (e ≤ length memory) × (x.now ≡ slice_range memory p.from e) × (length x.now + p.from ≡ e))
+    → MatchOption r (inside memory p ≡ false) (λ x. (inside memory p ≡ true) × (x.now ≡ image_at memory p))
+unfolding inside reaches image_at part
+got memory p e end None h = lt-leb (p.from + p.size) (length memory) (⊎_elim (λ a. omega arith) (λ b. omega arith) h)
+got memory p e end (Some x) h =
+    let size : e - p.from ≡ p.size = omega arith in
+    (le-leb (p.from + p.size) (length memory) (omega arith), h.2 ∙ ap (λ (n : ℕ). take n (drop p.from memory)) size)
+
 module _ (memory : List ℕ) (places : List Place) (i : ℕ) where
-  pub not_inside : inside memory (place_at places i) ≡ false → good_at memory places i ≡ false
-  unfolding good_at
-  not_inside h = simp h
+  -- a place that overlaps none before it, and one that does
+  pub alone_decides : apart_below places i ≡ true → (r : Bool) → r ≡ good_alone memory (place_at places i) → r ≡ good_at memory places i
+  unfolding good_at good_alone
+  alone_decides h r e = simp h e
 
   pub not_apart : apart_below places i ≡ false → good_at memory places i ≡ false
   unfolding good_at
   not_apart h = simp (h, and-false)
 
-  pub not_good : good (cut memory (place_at places i)) ≡ false → good_at memory places i ≡ false
-  unfolding good_at
-  not_good h =
-      let bad : good (image_at memory (place_at places i)) ≡ false = ap good (sym (cut_is memory (place_at places i))) ∙ h in
-      simp (bad, and-false)
-
-  -- where it is well placed, its image decides
-  pub image_decides : inside memory (place_at places i) ≡ true → apart_below places i ≡ true
-      → (r : Bool) → r ≡ good (cut memory (place_at places i)) → r ≡ good_at memory places i
-  unfolding good_at
-  image_decides h a r e = simp (h, a) (e ∙ ap good (cut_is memory (place_at places i)))
+  pub not_alone : good_alone memory (place_at places i) ≡ false → good_at memory places i ≡ false
+  unfolding good_at good_alone
+  not_alone h =
+      either (apart_below places i) (λ a. simp a h) (λ a. simp (a, and-false))
 
 module _ (memory : List ℕ) (tags : ℕ) (places : List Place) (few : tags ≤ 16) where
   pub population_not : (i : ℕ) → i < tags → good_at memory places i ≡ false → false ≡ good_population memory tags places
@@ -62,19 +73,13 @@ module _ (memory : List ℕ) (tags : ℕ) (places : List Place) (few : tags ≤ 
       let whole : all_below (good_at memory places) tags ≡ true = rw (← e) h in
       simp (le-leb tags 16 few, whole)
 
--- ---- one tag
+-- ---- one place
 
 module _ (memory : List ℕ) (p : Place) where
   pub alone_outside : inside memory p ≡ false → false ≡ good_alone memory p
   unfolding good_alone
   alone_outside h = simp h
 
-  pub alone_inside : inside memory p ≡ true → (r : Bool) → r ≡ good (cut memory p) → r ≡ good_alone memory p
+  pub alone_inside : inside memory p ≡ true → (image : List ℕ) → image ≡ image_at memory p → (r : Bool) → r ≡ good image → r ≡ good_alone memory p
   unfolding good_alone
-  alone_inside h r e = simp h (e ∙ ap good (cut_is memory p))
-
-pub population_alone : (memory : List ℕ) (tags : ℕ) (places : List Place) → tags ≡ 1
-    → (r : Bool) → r ≡ good_alone memory (place_at places 0) → r ≡ good_population memory tags places
-unfolding good_population good_at good_alone apart_below all_below
-population_alone memory tags places one r e =
-    e ∙ sym (and-true (good_alone memory (place_at places 0))) ∙ sym (ap (λ (n : ℕ). good_population memory n places) one)
+  alone_inside h image same r e = simp h (e ∙ ap good same)

@@ -10,11 +10,11 @@ use Rattle.frame.specs.Bytes.{first_of, byte, double, part}
 use Rattle.image.specs.Image.{good}
 use Rattle.tag.specs.Claims.{words_of, offset_of}
 use Rattle.population.specs.Executing.{ExecutionAt}
-use Rattle.population.specs.Lowest.{lowest}
+use Rattle.population.specs.Lowest.{lowest, no_tag, tag_at}
 use Rattle.population.specs.Matching.{matches}
 use Rattle.population.specs.Places.{good_population}
 use Rattle.population.specs.Selections.{taken, good_selection}
-use Rattle.population.specs.declared.lowest.Lowest.TheVariants.{NoTag, Tag}
+use Rattle.std.specs.Prelude.{None, Some}
 use Rattle.population.specs.declared.places.Place.{Place}
 
 -- ---- "A crate holds up to 16 tags, each with its place in one lent memory and its own image"
@@ -119,8 +119,8 @@ abbrev pub LowestTag : Type 0
 LowestTag =
     (memory : List ℕ) (tags : ℕ) (places : List Place) (s : List ℕ) (start : ℕ)
     → good_population memory tags places ≡ true
-    → ((n : ℕ) (p : Place) → lowest memory tags places s start ≡ Tag n p ↔ LowestRules memory tags places s start n p)
-    × (lowest memory tags places s start ≡ NoTag ↔ ((i : ℕ) → start ≤ i → i < tags → Candidate memory places s i → ⊥))
+    → ((n : ℕ) (p : Place) → lowest memory tags places s start ≡ tag_at n p ↔ LowestRules memory tags places s start n p)
+    × (lowest memory tags places s start ≡ no_tag ↔ ((i : ℕ) → start ≤ i → i < tags → Candidate memory places s i → ⊥))
 
 -- ---- "A command aimed at one tag leaves all bytes of the others."
 

@@ -1,131 +1,113 @@
 // Where the tags' images stand in the memory, and whether all of them are well placed and good.
-ghost use Rattle.std.specs.Prelude.{◌≡◌, ◌<◌};
-ghost use Rattle.population.specs.Places.{apart, apart_below, good_alone, good_at, good_population};
+ghost use Rattle.std.specs.Prelude.{◌≡◌, ◌+◌, ◌<◌, ◌≤◌, true, false, MatchOption};
+ghost use Rattle.population.specs.Places.{inside, image_at, apart, apart_below, good_alone, good_at, good_population, nowhere};
 
-use frame::bytes::{fits, reaches};
 use image::good::is_good;
 
-// The bytes of one tag's image. Sums of two of these are taken as usize, where none wraps.
+// The bytes of one tag's image.
 #[derive(Clone, Copy)]
 pub struct Place {
     pub from: u32,
     pub size: u32,
 }
 
-// The one ends before the other begins.
-fn is_apart(p: Place, q: Place) -> bool
-    ensures { result ≡ apart p q }
-{
-    let p_from = p.from as usize;
-    let q_from = q.from as usize;
-    if fits(p_from, p.size as usize, q_from) {
-        return true;
+impl Place {
+    // The first byte behind the image: in 64 bits, where no sum wraps.
+    fn end(self) -> u64
+        ensures { result ≡ self.from + self.size }
+    {
+        u64::from(self.from) + u64::from(self.size)
     }
-    fits(q_from, q.size as usize, p_from)
+
+    // The image, or none where the place leaves the memory.
+    pub fn image_in(self, memory: &[u8]) -> Option<&[u8]>
+        ensures { MatchOption result (inside memory.now self ≡ false)
+            (λ image. (inside memory.now self ≡ true) × (image.now ≡ image_at memory.now self)) }
+    {
+        memory.get(self.from as usize..self.end() as usize)
+    }
+
+    // The one ends before the other begins.
+    fn is_apart_from(self, other: Place) -> bool
+        ensures { result ≡ apart self other }
+    {
+        self.end() <= u64::from(other.from) || other.end() <= u64::from(self.from)
+    }
+
+    // The place is in the memory, and the image there is good.
+    fn is_good_in(self, memory: &[u8]) -> bool
+        ensures { result ≡ good_alone memory.now self }
+    {
+        match self.image_in(memory) {
+            Some(image) => is_good(image),
+            None => false,
+        }
+    }
 }
 
-// Place i overlaps none of those before it.
-fn is_apart_below(places: [Place; 16], i: usize) -> bool
-    requires { i < 16 }
-    ensures { result ≡ apart_below places i }
-{
-    let p = places[i];
-    let mut j = i;
-    while 0 < j {
-        j -= 1;
-        let q = places[j];
-        if !is_apart(p, q) {
+// How many tags there are, sixteen at most in a good population, and where the image of each stands in one lent memory. The places behind theirs are not looked
+// at.
+#[derive(Clone, Copy)]
+pub struct Population {
+    pub places: [Place; 16],
+    pub tags: usize,
+}
+
+impl Population {
+    // Place i overlaps none of those before it.
+    fn is_apart_below(&self, i: usize) -> bool
+        requires { i < 16 }
+        ensures { result ≡ apart_below self.now.places i }
+    {
+        let place = self.places[i];
+        for j in 0..i {
+            if !place.is_apart_from(self.places[j]) {
+                return false;
+            }
+        }
+        true
+    }
+
+    // Place i is in the memory and overlaps none before it, and the image there is good.
+    fn is_good_at(&self, memory: &[u8], i: usize) -> bool
+        requires { i < 16 }
+        ensures { result ≡ good_at memory.now self.now.places i }
+    {
+        self.is_apart_below(i) && self.places[i].is_good_in(memory)
+    }
+
+    // For places in any order: each is held against all before it.
+    fn is_good_scattered(&self, memory: &[u8]) -> bool
+        requires { self.now.tags ≤ 16 }
+        ensures { result ≡ good_population memory.now self.now.tags self.now.places }
+    {
+        for i in 0..self.tags {
+            if !self.is_good_at(memory, i) {
+                return false;
+            }
+        }
+        true
+    }
+
+    // Every call asks this. Places that rise, each behind the end of the one before, overlap nowhere: one pass shows it. Only where they do not rise are they
+    // held against one another.
+    pub fn is_good(&self, memory: &[u8]) -> bool
+        ensures { result ≡ good_population memory.now self.now.tags self.now.places }
+    {
+        if 16 < self.tags {
             return false;
         }
-    }
-    true
-}
-
-// Tag i stands in the memory, overlaps none before it, and is good.
-fn is_good_at(memory: &[u8], places: [Place; 16], i: usize) -> bool
-    requires { i < 16 }
-    ensures { result ≡ good_at memory.now places i }
-{
-    let p = places[i];
-    let from = p.from as usize;
-    let size = p.size as usize;
-    if !reaches(memory, from, size) {
-        return false;
-    }
-    if !is_apart_below(places, i) {
-        return false;
-    }
-    let to = from + size;
-    is_good(&memory[from..to])
-}
-
-// For places in any order: each is held against all before it.
-fn is_good_scattered(memory: &[u8], tags: usize, places: [Place; 16]) -> bool
-    ensures { result ≡ good_population memory.now tags places }
-{
-    if 16 < tags {
-        return false;
-    }
-    let mut i = tags;
-    while 0 < i {
-        i -= 1;
-        if !is_good_at(memory, places, i) {
-            return false;
+        let mut end = 0;
+        for i in 0..self.tags {
+            let place = self.places[i];
+            if u64::from(place.from) < end {
+                return self.is_good_scattered(memory);
+            }
+            if !place.is_good_in(memory) {
+                return false;
+            }
+            end = place.end();
         }
+        true
     }
-    true
-}
-
-// Places that rise, each behind the end of the one before, overlap nowhere: one pass shows it. Only where they do not rise are they held
-// against one another.
-fn is_good_rising(memory: &[u8], tags: usize, places: [Place; 16]) -> bool
-    ensures { result ≡ good_population memory.now tags places }
-{
-    if 16 < tags {
-        return false;
-    }
-    let mut i = 0;
-    let mut end = 0;
-    while i < tags {
-        let p = places[i];
-        let from = p.from as usize;
-        let size = p.size as usize;
-        if from < end {
-            return is_good_scattered(memory, tags, places);
-        }
-        if !reaches(memory, from, size) {
-            return false;
-        }
-        let to = from + size;
-        if !is_good(&memory[from..to]) {
-            return false;
-        }
-        end = to;
-        i += 1;
-    }
-    true
-}
-
-// A place that stands alone overlaps none.
-fn is_good_alone(memory: &[u8], p: Place) -> bool
-    ensures { result ≡ good_alone memory.now p }
-{
-    let from = p.from as usize;
-    let size = p.size as usize;
-    if !reaches(memory, from, size) {
-        return false;
-    }
-    let to = from + size;
-    is_good(&memory[from..to])
-}
-
-// Every call asks this. One tag is tested without a pass: its place is then read where the caller stored it, and the array is not copied first.
-pub fn is_good_population(memory: &[u8], tags: usize, places: [Place; 16]) -> bool
-    ensures { result ≡ good_population memory.now tags places }
-{
-    if tags == 1 {
-        let first = places[0];
-        return is_good_alone(memory, first);
-    }
-    is_good_rising(memory, tags, places)
 }

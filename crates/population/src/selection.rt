@@ -9,10 +9,7 @@ use frame::bytes::byte_at;
 fn is_known_action(action: u8) -> bool
     ensures { result ≡ known_action action }
 {
-    if action == 0 {
-        return true;
-    }
-    action == 4
+    matches!(action, 0 | 4)
 }
 
 pub fn is_taken(parameters: &[u8]) -> bool
@@ -31,15 +28,12 @@ pub fn is_taken(parameters: &[u8]) -> bool
     if byte_at(parameters, 6) != 0 {
         return false;
     }
-    let bits = byte_at(parameters, 5) as usize;
+    let bits = usize::from(byte_at(parameters, 5));
     parameters.len() == 7 + (bits + 7) / 8
 }
 
 pub fn is_good_selection(selection: &[u8]) -> bool
     ensures { result ≡ good_selection selection.now }
 {
-    if selection.len() == 0 {
-        return true;
-    }
-    is_taken(selection)
+    selection.is_empty() || is_taken(selection)
 }

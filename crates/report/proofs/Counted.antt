@@ -22,8 +22,8 @@ use Rattle.frame.specs.Bytes.{pick, byte, number}
 use Rattle.frame.specs.Finding.{reason_number}
 use Rattle.frame.specs.declared.finding.Reason.{Reason}
 use Rattle.frame.specs.declared.finding.Reason.TheVariants.{NoHeader, WrongType, TooLong, WrongCheck, WrongEnd}
-use Rattle.population.specs.declared.lowest.Lowest.{Lowest}
-use Rattle.population.specs.declared.lowest.Lowest.TheVariants.{NoTag, Tag}
+use Rattle.population.specs.Lowest.{no_tag, tag_at}
+use Rattle.std.specs.Prelude.{Option, None, Some}
 use Rattle.population.specs.declared.places.Place.{Place}
 use Rattle.reader.specs.declared.tally.Tally.{Tally}
 use Rattle.report.specs.Claims.{is_frame, is_drop, CountsAreLines, took_by, hands_out, took, BytesAddUp}
@@ -102,15 +102,15 @@ took_none FullTally not0 not3 pl = refl
 took_none FullList not0 not3 pl = refl
 
 -- a tag that waits is handed out, and no byte taken
-is_one : (w : Lowest) → is_none w ≡ false → (n : ℕ) × (p : Place) × (w ≡ Tag n p)
+is_one : (w : Option (ℕ × Place)) → is_none w ≡ false → (n : ℕ) × (p : Place) × (w ≡ tag_at n p)
 unfolding is_none
-is_one NoTag h = absurd (true≢false h)
-is_one (Tag n p) h = (n, p, refl)
+is_one None h = absurd (true≢false h)
+is_one (Some (n, p)) h = (n, p, refl)
 
-is_none_lem : (w : Lowest) → is_none w ≡ true → w ≡ NoTag
+is_none_lem : (w : Option (ℕ × Place)) → is_none w ≡ true → w ≡ no_tag
 unfolding is_none
-is_none_lem NoTag h = refl
-is_none_lem (Tag n p) h = absurd (true≢false (sym h))
+is_none_lem None h = refl
+is_none_lem (Some (n, p)) h = absurd (true≢false (sym h))
 
 module _ (input : List ℕ) where
   -- the cursor moves over what a call takes

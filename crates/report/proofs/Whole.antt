@@ -17,11 +17,10 @@ use Rattle.frame.proofs.Picks.{by_test, pick_true, pick_false}
 use Rattle.frame.proofs.Tests.{either, or_neither}
 use Rattle.frame.specs.Bytes.{pick}
 use Rattle.population.proofs.Firsts.{first_none}
-use Rattle.population.specs.Lowest.{lowest}
+use Rattle.population.specs.Lowest.{lowest, no_tag}
 use Rattle.population.specs.Places.{good_population}
 use Rattle.population.specs.Selections.{good_selection}
-use Rattle.population.specs.declared.lowest.Lowest.{Lowest}
-use Rattle.population.specs.declared.lowest.Lowest.TheVariants.{NoTag}
+use Rattle.std.specs.Prelude.{Option}
 use Rattle.report.proofs.LinesOfCalls.{count_lines, refused_lines}
 use Rattle.report.proofs.Reports.{ends_is, report_over, report_more}
 use Rattle.report.specs.Claims.{TooLongReport, LineByLine, GoodCrateReport, BadCrateReport}
@@ -99,10 +98,10 @@ module _ (commands memory sizes : List ℕ) (short : too_long (length commands) 
   few_bytes = ltb-false 32768 (length commands) (or_neither (ltb 32768 (length commands)) (any_long sizes) short).0
 
 -- the program begins with no tag to hand out
-pub none_waits : (memory sizes : List ℕ) → waiting (fresh memory sizes) ≡ NoTag
+pub none_waits : (memory sizes : List ℕ) → waiting (fresh memory sizes) ≡ no_tag
 unfolding waiting fresh lowest
 none_waits memory sizes =
-    by_test (λ (w : Lowest). w ≡ NoTag) (ltb 16 (length sizes)) (λ _. refl) (λ few. first_none _ _ 16 (length sizes) (ltb-false 16 (length sizes) few))
+    by_test (λ (w : Option (ℕ × Place)). w ≡ no_tag) (ltb 16 (length sizes)) (λ _. refl) (λ few. first_none _ _ 16 (length sizes) (ltb-false 16 (length sizes) few))
 
 pub good_crate_report : GoodCrateReport
 unfolding fresh good_selection pick

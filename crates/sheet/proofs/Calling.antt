@@ -17,8 +17,8 @@ use Rattle.frame.specs.Bytes.{pick, byte}
 use Rattle.frame.specs.Finding.{reason_number}
 use Rattle.frame.specs.declared.finding.Reason.{Reason}
 use Rattle.frame.specs.declared.finding.Reason.TheVariants.{NoHeader, WrongType, TooLong, WrongCheck, WrongEnd}
-use Rattle.population.specs.declared.lowest.Lowest.{Lowest}
-use Rattle.population.specs.declared.lowest.Lowest.TheVariants.{NoTag, Tag}
+use Rattle.population.specs.Lowest.{tag_at}
+use Rattle.std.specs.Prelude.{Option, None, Some}
 use Rattle.population.specs.declared.places.Place.{Place}
 use Rattle.reader.proofs.Tallies.{not_full}
 use Rattle.reader.specs.Outcomes.{number_of, reason_of}
@@ -115,7 +115,7 @@ picked test n h = simp (h, pick_true)
 
 -- a tag that waits is handed out with no error
 module _ (input : List ℕ) (s : State) (answered : number_of (step (call input) s).outcome ≡ 0) where
-  handed_good : (n : ℕ) (p : Place) → waiting s ≡ Tag n p → is_error (step (call input) s) ≡ false
+  handed_good : (n : ℕ) (p : Place) → waiting s ≡ tag_at n p → is_error (step (call input) s) ≡ false
   handed_good n p e =
       let h = hand_out (call input) s n p e answered in
       either (is_error (step (call input) s))
@@ -124,12 +124,12 @@ module _ (input : List ℕ) (s : State) (answered : number_of (step (call input)
       (λ good. good)
 
   -- so an error answer moves the cursor over a frame, and no answer moves it back
-  answer_moves : (w : Lowest) → waiting s ≡ w → s.reader.cursor + pick (is_error (step (call input) s)) 7 0 ≤ (step (call input) s).next.reader.cursor
-  answer_moves NoTag e =
+  answer_moves : (w : Option (ℕ × Place)) → waiting s ≡ w → s.reader.cursor + pick (is_error (step (call input) s)) 7 0 ≤ (step (call input) s).next.reader.cursor
+  answer_moves None e =
       let f = answer_is_one_frame (call input) s answered in
       by_test (λ (n : ℕ). s.reader.cursor + n ≤ (step (call input) s).next.reader.cursor) (is_error (step (call input) s))
       (λ error. omega (arith, f.over_the_command e)) (λ good. omega (arith, f.over_the_command e))
-  answer_moves (Tag n p) e =
+  answer_moves (Some (n, p)) e =
       let f = answer_is_one_frame (call input) s answered in
       rw (handed_good n p e, pick_false) (omega (arith, f.stays_with_a_tag n p e))
 

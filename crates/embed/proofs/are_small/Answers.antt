@@ -9,7 +9,7 @@ use Rattle.embed.specs.Placed.{small_at}
 use Rattle.embed.proofs.are_small.Goals as goal
 
 pub loop-i-init : goal.loop-i-init
-loop-i-init c = (c.requires.0, (c.requires.1, (omega arith, none_below _ 0 refl)))
+loop-i-init c = none_below _ 0 refl
 
 pub returns-then-numbers-i-gt-LIMIT : goal.returns-then-numbers-i-gt-LIMIT
 unfolding limit
@@ -17,11 +17,9 @@ returns-then-numbers-i-gt-LIMIT c = far_one _ _ _ c.loop-i-test.true c.if-number
 
 pub loop-i-preserved : goal.loop-i-preserved
 unfolding limit
-loop-i-preserved c =
-    let inv = c.loop-i.invariant in
-    (inv.0, (inv.1.0, (omega arith, small_more _ _ inv.1.1.1 c.if-numbers-i-gt-LIMIT.false)))
+loop-i-preserved c = small_more _ _ c.loop-i.invariant c.if-numbers-i-gt-LIMIT.false
 
 pub returns : goal.returns
 returns c =
     let all : c.loop-i.i ≡ c.args.n = omega arith in
-    sym c.loop-i.invariant.1.1.1 ∙ ap (all_below (small_at _)) all
+    sym c.loop-i.invariant ∙ ap (all_below (small_at _)) all

@@ -1,81 +1,75 @@
--- `call_on` meets its contract: the crate's call between unpacking and storing. The loop's invariant: the row has the places of the first i tags.
+-- `call_on` meets its contract: the crate's call between unpacking and storing.
 use Prim.Native.Nat.{◌+◌, ◌*◌}
 use lib.ListN.{set, get_or}
 use mathlib.Core.List.{List}
-use mathlib.Core.Path.{◌≡◌, refl, ap, ◌∙◌}
+use mathlib.Core.Path.{◌≡◌, refl, ap, sym, ◌∙◌}
 use native.Mathlib.Omega.{arith}
 use Rattle.population.specs.declared.places.Place.{Place}
 use Rattle.reader.specs.Tallies.{limit}
 use Rattle.embed.proofs.Keeping.{stored_is}
-use Rattle.embed.proofs.Packing.{packed_step}
+use Rattle.embed.proofs.Packing.{listed_by, packed_step}
 use Rattle.embed.proofs.Placing.{used_small, used_there, fit_small, small_each, placed_more}
 use Rattle.embed.specs.Placed.{placed}
 use Rattle.embed.proofs.call_on.Goals as goal
+use Rattle.embed.proofs.call_on.Goals.{in-Some, in_default}
 
 pub loop-i-init : goal.loop-i-init
 unfolding placed
 loop-i-init c =
-    let numbers = c.args.numbers.now in (
-      used_small _ _ c.used_of-used.ensures,
-      (
-        used_there numbers _ c.used_of-used.ensures,
-        (fit_small numbers c.requires.are_places _ c.used_of-used.ensures, (omega arith, refl)),
-      ),
-    )
+    let numbers = c.args.numbers.now in
+    record {
+      few = used_small _ _ c.used_of-i-end.ensures;
+      there = used_there numbers _ c.used_of-i-end.ensures;
+      small = fit_small numbers c.requires.are_places _ c.used_of-i-end.ensures;
+      row_is = refl;
+    }
 
-pub overflow_cast-row : goal.overflow_cast-row
+pub overflow_cast-places : goal.overflow_cast-places
 unfolding limit
-overflow_cast-row c =
-    let at = c.loop-i in
-    omega (arith, small_each _ _ at.invariant.1.1.0 (2 * at.i) (omega arith))
+overflow_cast-places c = omega (arith, small_each _ _ c.loop-i.invariant.small (2 * c.loop-i.i) (omega arith))
 
-pub overflow_cast-row-in-loop-i : goal.overflow_cast-row-in-loop-i
+pub overflow_cast-places-in-loop-i : goal.overflow_cast-places-in-loop-i
 unfolding limit
-overflow_cast-row-in-loop-i c =
-    let at = c.loop-i in
-    omega (arith, small_each _ _ at.invariant.1.1.0 (2 * at.i + 1) (omega arith))
+overflow_cast-places-in-loop-i c = omega (arith, small_each _ _ c.loop-i.invariant.small (2 * c.loop-i.i + 1) (omega arith))
 
 pub loop-i-preserved : goal.loop-i-preserved
 loop-i-preserved c =
     let at = c.loop-i in
     let numbers = c.args.numbers.now in
-    let inv = at.invariant in (
-      inv.0,
-      (
-        inv.1.0,
-        (
-          inv.1.1.0,
-          (
-            omega arith,
-            ap (λ (l : List Place). set l at.i record { from = get_or numbers (2 * at.i) 0; size = get_or numbers (2 * at.i + 1) 0 }) inv.1.1.1.1
-                ∙ placed_more numbers at.i,
-          ),
-        ),
-      ),
-    )
+    record {
+      few = at.invariant.few;
+      there = at.invariant.there;
+      small = at.invariant.small;
+      row_is =
+          ap (λ (l : List Place). set l at.i record { from = get_or numbers (2 * at.i) 0; size = get_or numbers (2 * at.i + 1) 0 }) at.invariant.row_is
+          ∙ placed_more numbers at.i;
+    }
 
 pub bounds-state-10 : goal.bounds-state-10
-bounds-state-10 c =
-    omega (arith, c.requires.thirteen)
+bounds-state-10 c = omega (arith, c.requires.thirteen)
 
 pub bounds-state-11 : goal.bounds-state-11
-bounds-state-11 c =
-    omega (arith, c.requires.thirteen)
+bounds-state-11 c = omega (arith, c.requires.thirteen)
 
 pub bounds-state-12 : goal.bounds-state-12
-bounds-state-12 c =
-    omega (arith, c.requires.thirteen)
+bounds-state-12 c = omega (arith, c.requires.thirteen)
 
 pub tell-requires : goal.tell-requires
-tell-requires c =
-    c.requires.thirteen
+tell-requires c = c.requires.thirteen
 
 pub returns : goal.returns
+unfolding listed_by
 returns c =
     let a = c.args in
-    let all : c.loop-i.i ≡ c.used_of-used.result = omega (arith, c.loop-i.invariant.1.1.1.0, c.loop-i-test.false) in
-    packed_step a.input.now a.memory.now a.output.now a.numbers.now a.selection.now a.records.now a.state.now a.reader _ c.used_of-used.ensures
-    c.loop-i.row (c.loop-i.invariant.1.1.1.1 ∙ ap (placed _) all) _ _ _ _ c.call_beside-listed.ensures _ _ _ c.tell.ensures.0 c.add_numbers.ensures
+    let all : c.loop-i.i ≡ c.used_of-i-end.result = omega (arith, c.loop-i-test.false) in
+    let list : c.match-listed.records ≡ listed_by a.records.now (get_or a.state.now 12 0) c.call_beside-listed.result.failure =
+    elim c.match-listed.branch [
+      | in-Some w ↦ w.records-is ∙ w.add_numbers.ensures ∙ sym (ap (listed_by _ _) w.in-Some.is)
+      | in_default w ↦ w.records-is ∙ sym (ap (listed_by _ _) w.in_default.is)
+    ]
+    in
+    packed_step a.input.now a.memory.now a.output.now a.numbers.now a.selection.now a.records.now a.state.now a.reader _ c.used_of-i-end.ensures
+    c.loop-i.places (c.loop-i.invariant.row_is ∙ ap (placed _) all) _ _ _ _ c.call_beside-listed.ensures _ _ _ c.tell.ensures.0 list
     (c.tell.ensures.1
-    ∙ stored_is a.input.now a.memory.now a.output.now c.loop-i.row _ _ a.selection.now a.state.now a.reader _ _ _ _ _ c.requires.thirteen
+    ∙ stored_is a.input.now a.memory.now a.output.now c.loop-i.places _ _ a.selection.now a.state.now a.reader _ _ _ _ _ c.requires.thirteen
     c.requires.fits c.call_beside-listed.ensures)

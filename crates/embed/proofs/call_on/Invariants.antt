@@ -1,5 +1,5 @@
 -- `call_on` meets its contract: the crate's call between unpacking and storing. The loop's invariant: the row has the places of the first i tags.
-use Prim.Native.Nat.{◌-◌, ◌*◌, ◌≤◌}
+use Prim.Native.Nat.{◌*◌, ◌≤◌}
 use lib.ListN.{length}
 use mathlib.Core.Bool.{true}
 use mathlib.Core.Path.{◌≡◌}
@@ -9,8 +9,9 @@ use Rattle.embed.proofs.call_on.Given as goal
 
 abbrev pub invariant-loop-i : goal.invariant-loop-i
 invariant-loop-i l =
-    (l.used ≤ 16)
-    × ((2 * l.used ≤ length l.numbers) × ((all_below (small_at l.numbers) (2 * l.used) ≡ true) × ((l.i ≤ l.used) × (l.row ≡ placed l.numbers l.i))))
-
-abbrev pub decreases-loop-i : goal.decreases-loop-i
-decreases-loop-i l = l.used - l.i
+    record {
+      few : l.i-end ≤ 16;
+      there : 2 * l.i-end ≤ length l.numbers;
+      small : all_below (small_at l.numbers) (2 * l.i-end) ≡ true;
+      row_is : l.places ≡ placed l.numbers l.i;
+    }

@@ -5,4 +5,4 @@ use Rattle.embed.proofs.keep.Goals as goal
 
 pub returns : goal.returns
 unfolding kept
-returns c = (refl, refl)
+returns c = refl

@@ -1,6 +1,5 @@
 -- `keep_answer` meets its contract.
 use lib.ListN.{length-set}
-use mathlib.Core.Path.{refl}
 use native.Mathlib.Omega.{arith}
 use Rattle.embed.specs.Kept.{kept_answer}
 use Rattle.embed.proofs.keep_answer.Goals as goal
@@ -19,4 +18,4 @@ bounds-state-12 c = simp length-set (omega (arith, c.requires))
 
 pub returns : goal.returns
 unfolding kept_answer
-returns c = refl
+returns c = rw (c.from.ensures, c.from-2.ensures)

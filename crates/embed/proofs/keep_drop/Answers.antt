@@ -24,24 +24,24 @@ bounds-state-7 c = simp length-set (omega (arith, c.requires))
 pub returns-in-NoHeader : goal.returns-in-NoHeader
 unfolding count_for place_for
 returns-in-NoHeader c =
-    drop_stored c.args.state.now c.args.reader _ NoHeader _ _ c.reason_number.ensures c.in-NoHeader.is
+    rw c.from-in-NoHeader.ensures (drop_stored c.args.state.now c.args.reader _ NoHeader _ _ c.from.ensures c.in-NoHeader.is)
 
 pub returns-in-WrongType : goal.returns-in-WrongType
 unfolding count_for place_for
 returns-in-WrongType c =
-    drop_stored c.args.state.now c.args.reader _ WrongType _ _ c.reason_number.ensures c.in-WrongType.is
+    rw c.from-in-WrongType.ensures (drop_stored c.args.state.now c.args.reader _ WrongType _ _ c.from.ensures c.in-WrongType.is)
 
 pub returns-in-TooLong : goal.returns-in-TooLong
 unfolding count_for place_for
 returns-in-TooLong c =
-    drop_stored c.args.state.now c.args.reader _ TooLong _ _ c.reason_number.ensures c.in-TooLong.is
+    rw c.from-in-TooLong.ensures (drop_stored c.args.state.now c.args.reader _ TooLong _ _ c.from.ensures c.in-TooLong.is)
 
 pub returns-in-WrongCheck : goal.returns-in-WrongCheck
 unfolding count_for place_for
 returns-in-WrongCheck c =
-    drop_stored c.args.state.now c.args.reader _ WrongCheck _ _ c.reason_number.ensures c.in-WrongCheck.is
+    rw c.from-in-WrongCheck.ensures (drop_stored c.args.state.now c.args.reader _ WrongCheck _ _ c.from.ensures c.in-WrongCheck.is)
 
 pub returns-in-WrongEnd : goal.returns-in-WrongEnd
 unfolding count_for place_for
 returns-in-WrongEnd c =
-    drop_stored c.args.state.now c.args.reader _ WrongEnd _ _ c.reason_number.ensures c.in-WrongEnd.is
+    rw c.from-in-WrongEnd.ensures (drop_stored c.args.state.now c.args.reader _ WrongEnd _ _ c.from.ensures c.in-WrongEnd.is)

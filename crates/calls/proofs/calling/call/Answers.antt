@@ -7,6 +7,6 @@ carry_out-requires c = decided_doable _ _ _ _ c.decide-job.ensures
 
 pub returns : goal.returns
 returns c = (
-  called _ _ _ _ _ (c.carry_out.ensures.0 c.args.places c.args.tags) c.decide-job.ensures,
+  called _ _ _ _ _ (c.carry_out.ensures.0 c.args.population.now.places c.args.population.now.tags) c.decide-job.ensures,
   lent_called _ _ _ _ _ _ c.carry_out.ensures.1 c.decide-job.ensures,
 )

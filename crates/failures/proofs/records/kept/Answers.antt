@@ -1,13 +1,11 @@
--- `kept` meets its contract: each return is one of the three cases.
-use Rattle.failures.proofs.Moves.{may_remove_lem, too_many_go, too_many_held, kept_is, kept_none}
+-- `kept` meets its contract: none are where they may not go.
+use Rattle.failures.proofs.Moves.{kept_is, kept_none}
+use Rattle.frame.proofs.Tests.{holds, fails}
 use mathlib.Core.Path.{sym}
 use Rattle.failures.proofs.records.kept.Goals as goal
 
-pub returns-then-held-n : goal.returns-then-held-n
-returns-then-held-n c = sym (kept_none _ _ _ (too_many_go _ _ _ c.if-held-n.true))
-
-pub returns-then-room-held : goal.returns-then-room-held
-returns-then-room-held c = sym (kept_none _ _ _ (too_many_held _ _ _ c.if-room-held.true))
+pub returns-then-may_acknowledge : goal.returns-then-may_acknowledge
+returns-then-may_acknowledge c = sym (kept_is _ _ _ (holds c.if-may_acknowledge.true c.may_acknowledge.ensures))
 
 pub returns : goal.returns
-returns c = sym (kept_is _ _ _ (may_remove_lem _ _ _ c.if-held-n.false c.if-room-held.false))
+returns c = sym (kept_none _ _ _ (fails c.if-may_acknowledge.false c.may_acknowledge.ensures))

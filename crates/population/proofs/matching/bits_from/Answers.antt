@@ -5,4 +5,4 @@ use Rattle.population.proofs.matching.bits_from.Goals as goal
 
 pub returns : goal.returns
 returns c =
-    bits_are _ _ _ _ (c.wide.ensures ∙ c.byte_at.ensures) (c.wide-2.ensures ∙ c.byte_at-2.ensures) (omega arith) _ (omega arith)
+    bits_are _ _ _ _ (c.from.ensures ∙ c.byte_at.ensures) (c.from-2.ensures ∙ c.byte_at-2.ensures) (omega arith) _ (omega arith)

@@ -1,5 +1,5 @@
-use mathlib.Core.Path.{refl}
-use Rattle.frame.proofs.Tests.{not_holds, not_fails}
+use mathlib.Core.Path.{refl, ◌∙◌}
+use Rattle.frame.proofs.Tests.{holds, fails}
 use Rattle.population.proofs.Takings.{other_target, other_action, reserved_bank, truncates, length_decides}
 use Rattle.population.proofs.selection.is_taken.Goals as goal
 
@@ -8,7 +8,7 @@ returns-then-parameter-ne0 c = other_target _ _ c.byte_at-parameter.ensures c.if
 
 pub returns-then-not-is_known_action : goal.returns-then-not-is_known_action
 returns-then-not-is_known_action c =
-    other_action _ _ c.byte_at-parameter.ensures (not_holds c.if-not-is_known_action.true-raw c.is_known_action.ensures)
+    other_action _ _ c.byte_at-parameter.ensures (fails c.if-not-is_known_action.true c.is_known_action.ensures)
 
 pub returns-then-parameter-eq0 : goal.returns-then-parameter-eq0
 returns-then-parameter-eq0 c =
@@ -21,4 +21,4 @@ returns-then-byte_at-ne0 c =
 pub returns : goal.returns
 returns c =
     length_decides _ _ c.byte_at-parameter.ensures _ c.byte_at.ensures c.if-parameter-ne0.false
-    (not_fails c.if-not-is_known_action.false-raw c.is_known_action.ensures) c.if-parameter-eq0.false c.if-byte_at-ne0.false _ c.byte_at-bits.ensures _ refl
+    (holds c.if-not-is_known_action.false c.is_known_action.ensures) c.if-parameter-eq0.false c.if-byte_at-ne0.false _ (c.from-bits.ensures ∙ c.byte_at-2.ensures) _ refl

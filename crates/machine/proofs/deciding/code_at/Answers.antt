@@ -1,7 +1,7 @@
 -- `code_at` meets its contract: behind the end stands 0.
 use Rattle.machine.specs.Machine.{code_at}
-use Rattle.failures.proofs.Besides.{no_code}
-use Rattle.failures.proofs.listing.code_at.Goals as goal
+use Rattle.machine.proofs.Jobs.{no_code}
+use Rattle.machine.proofs.deciding.code_at.Goals as goal
 
 pub returns-then-input-cursor : goal.returns-then-input-cursor
 returns-then-input-cursor c = no_code _ _ c.if-input-cursor.true
