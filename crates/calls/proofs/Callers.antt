@@ -29,12 +29,12 @@ use Rattle.population.specs.Selections.{mask_bytes, taken}
 use Rattle.reader.specs.Tallies.{tally_of}
 use Rattle.reader.specs.declared.tally.Tally.{Tally}
 use Rattle.tag.specs.Answers.{is_error}
-use Rattle.tag.specs.declared.commands.Act.{Act}
+use Rattle.tag.specs.Errors.{Verdict}
 
 abbrev pub DropsStay : Tally → Tally → Type 0
 DropsStay t u = u ≡ tally_of u.good u.error t.header t.kind t.long t.check t.end
 
-counted_stays : (act : Act) (t : Tally) → DropsStay t (counted act t)
+counted_stays : (act : Verdict) (t : Tally) → DropsStay t (counted act t)
 unfolding counted
 counted_stays act t = by_test (DropsStay t) (is_error act) (λ _. refl) (λ _. refl)
 

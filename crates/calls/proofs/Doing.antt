@@ -42,7 +42,7 @@ use Rattle.reader.specs.declared.state.Reader.{Reader}
 use Rattle.reader.specs.declared.tally.Tally.{Tally}
 use Rattle.tag.specs.Answers.{answer, changed, is_error}
 use Rattle.tag.specs.Commands.{act_of}
-use Rattle.tag.specs.declared.commands.Act.{Act}
+use Rattle.tag.specs.Errors.{Verdict}
 
 -- ---- an answer with one byte
 
@@ -114,7 +114,7 @@ module _ (memory output p : List ℕ) (a : Aimed) (reader : Reader) (next count 
   abbrev image : List ℕ
   image = image_at memory a.place
 
-  abbrev act : Act
+  abbrev act : Verdict
   act = act_of image a.code p
 
   done : Ran image output p act (image_after image output a.code p) output_left executed
@@ -225,7 +225,7 @@ module _ (input : List ℕ) (cursor : ℕ) (l : Lent) (job : Job) where
   lends_select pl e p same output reader behind bytes_left output_left r t =
       t.lent_is ∙ ap (λ (q : List ℕ). with_selected q l) same ∙ lends (Select pl) e
 
-  pub lends_aim : (a : Aimed) → job ≡ Aim a → (memory output p : List ℕ) (reader : Reader) (n : ℕ) (act : Act) (memory_left output_left : List ℕ) (r : Called)
+  pub lends_aim : (a : Aimed) → job ≡ Aim a → (memory output p : List ℕ) (reader : Reader) (n : ℕ) (act : Verdict) (memory_left output_left : List ℕ) (r : Called)
       → AimDone memory output p a reader n l.count act memory_left output_left r
       → lent_of l.bytes r.state.selected ≡ lent_after input cursor l job
   unfolding lent_after

@@ -20,7 +20,7 @@ use Rattle.reader.specs.Readers.{reader_of}
 use Rattle.reader.specs.declared.outcome.Outcome.{Outcome}
 use Rattle.reader.specs.declared.outcome.Outcome.TheVariants.{Answered}
 use Rattle.tag.specs.Answers.{answer, changed, is_error}
-use Rattle.tag.specs.declared.commands.Act.{Act}
+use Rattle.tag.specs.Errors.{Verdict}
 
 -- what a call hands back by value
 abbrev pub called_of : Outcome → ℕ → Reader → ℕ → ℕ → Called
@@ -93,7 +93,7 @@ Doable input memory output reader (Miss e pl) = Framed input output reader pl
 Doable input memory output reader (Aim a) = Aimable input memory output a
 
 -- what `aim` promises of memory and output, those that it leaves, and its result
-pub record AimDone (memory output p : List ℕ) (a : Aimed) (reader : Reader) (next count : ℕ) (act : Act) (memory_left output_left : List ℕ) (r : Called) : Type 0 where
+pub record AimDone (memory output p : List ℕ) (a : Aimed) (reader : Reader) (next count : ℕ) (act : Verdict) (memory_left output_left : List ℕ) (r : Called) : Type 0 where
   pub memory_is : memory_left ≡ replaced memory a.place (changed (image_at memory a.place) p act)
   pub output_is : output_left ≡ written (answer (image_at memory a.place) act) output
   pub result_is : r

@@ -23,7 +23,7 @@ use Rattle.tag.proofs.NamedWords.{data_length}
 use Rattle.tag.specs.Answers.{answer, changed, is_error}
 use Rattle.tag.specs.Claims.{comes_to, outcome}
 use Rattle.tag.specs.Commands.{bank_in, act_of}
-use Rattle.tag.specs.declared.commands.Act.{Act}
+use Rattle.tag.specs.Errors.{Verdict}
 
 overwritten : (at : ℕ) (bytes old : List ℕ) → at + length bytes ≤ length old → Overwritten at bytes old (sets old at bytes)
 overwritten at bytes old h =
@@ -34,7 +34,7 @@ overwritten at bytes old h =
     }
 
 -- from what an act does to what the command comes to
-record ActEffect (image p : List ℕ) (Stored : List ℕ → Type 0) (Also : Type 0) (act : Act) : Type 0 where
+record ActEffect (image p : List ℕ) (Stored : List ℕ → Type 0) (Also : Type 0) (act : Verdict) : Type 0 where
   error_keeps : is_error act ≡ true → changed image p act ≡ image
   good_stores : is_error act ≡ false → Stored (changed image p act)
   good_also : is_error act ≡ false → Also
@@ -67,11 +67,11 @@ module _ (image p : List ℕ) (code : ℕ) where
 -- ---- the acts
 
 module _ (image p : List ℕ) (Stored : List ℕ → Type 0) (Also : Type 0) where
-  keeps : (act : Act) → is_error act ≡ true → changed image p act ≡ image → ActEffect image p Stored Also act
+  keeps : (act : Verdict) → is_error act ≡ true → changed image p act ≡ image → ActEffect image p Stored Also act
   keeps act h k =
       record { error_keeps = λ e. k; good_stores = λ e. absurd (true≢false (sym h ∙ e)); good_also = λ e. absurd (true≢false (sym h ∙ e)) }
 
-  stores : (act : Act) → is_error act ≡ false → Stored (changed image p act) → Also → ActEffect image p Stored Also act
+  stores : (act : Verdict) → is_error act ≡ false → Stored (changed image p act) → Also → ActEffect image p Stored Also act
   stores act h o w = record { error_keeps = λ e. absurd (true≢false (sym e ∙ h)); good_stores = λ e. o; good_also = λ e. w }
 
 -- where the code is one, no case of another code can be
@@ -133,7 +133,7 @@ kill_effect image p h =
 pub no_other_effect : NoOtherEffect
 unfolding outcome changed
 no_other_effect image code p not-write not-lock not-kill =
-    act_cases (λ (act : Act). changed image p act ≡ image) (λ e. refl) (λ e. refl) image p code
+    act_cases (λ (act : Verdict). changed image p act ≡ image) (λ e. refl) (λ e. refl) image p code
     (λ e. refl)
     (λ e reads. refl)
     (λ e writes. absurd (not-write e))
@@ -143,7 +143,7 @@ no_other_effect image code p not-write not-lock not-kill =
 pub gaps_stay : GapsStay
 unfolding outcome changed bytes_of word_at end_of view bank_at bank_of pick
 gaps_stay image code p h i far gap =
-    act_cases (λ (act : Act). byte (changed image p act) i ≡ byte image i) (λ e. refl) (λ e. refl) image p code
+    act_cases (λ (act : Verdict). byte (changed image p act) i ≡ byte image i) (λ e. refl) (λ e. refl) image p code
     (λ e. refl)
     (λ e reads. refl)
     (λ e writes.

@@ -7,6 +7,7 @@ use mathlib.Core.Bool.{true}
 use mathlib.Core.List.{List, [], ◌∷◌}
 use mathlib.Core.Path.{◌≡◌, refl, ap, sym, subst, ◌∙◌}
 use native.Mathlib.Omega.{arith}
+use Rattle.std.specs.Prelude.{Ok}
 use Rattle.effects.specs.Claims.{Permalocks, PermalockRule, PermalocksStay}
 use Rattle.frame.proofs.Picks.{pick_true, by_test}
 use Rattle.frame.proofs.Stores.{number_sets_before}
@@ -21,7 +22,7 @@ use Rattle.tag.specs.Answers.{crc_kept, changed}
 use Rattle.tag.specs.Claims.{outcome}
 use Rattle.tag.specs.Commands.{bank_in, data_in, act_of}
 use Rattle.tag.specs.Locks.{pairs, permalocked, new_pair, new_pairs}
-use Rattle.tag.specs.declared.commands.Act.{Act}
+use Rattle.tag.specs.Errors.{Verdict}
 use Rattle.tag.specs.declared.commands.Act.TheVariants.{Store}
 use Rattle.tag.specs.declared.locks.Pairs.{Pairs}
 
@@ -54,7 +55,7 @@ both old mid new first second =
     }
 
 -- a Write, and the CRC word that it keeps, are behind the lock bits
-written_locks : (image p : List ℕ) → good image ≡ true → Writes image p → number (changed image p (Store (place_of image p))) 20 ≡ number image 20
+written_locks : (image p : List ℕ) → good image ≡ true → Writes image p → number (changed image p (Ok (Store (place_of image p)))) 20 ≡ number image 20
 unfolding changed crc_kept with_crc view bank_at
 written_locks image p h w =
     let g : Good (view image) = good_facts image h in
@@ -70,7 +71,7 @@ by_act : (image p : List ℕ) (code : ℕ) → good image ≡ true
     → Permalocks (pairs (number image 20)) (pairs (number (changed image p (act_of image code p)) 20))
 unfolding changed view bytes_of
 by_act image p code h =
-    let Kept : Act → Type 0 = λ act. Permalocks (pairs (number image 20)) (pairs (number (changed image p act) 20)) in
+    let Kept : Verdict → Type 0 = λ act. Permalocks (pairs (number image 20)) (pairs (number (changed image p act) 20)) in
     act_cases Kept (λ e. same _ _ refl) (λ e. same _ _ refl) image p code
     (λ e. same _ _ refl)
     (λ e reads. same _ _ refl)

@@ -9,6 +9,7 @@ use mathlib.Core.List.{List}
 use mathlib.Core.Logic.{◌≢◌, ⊎_elim}
 use mathlib.Core.Path.{◌≡◌, refl, ap, ap₂, sym, subst, ◌∙◌}
 use native.Mathlib.Omega.{arith}
+use Rattle.std.specs.Prelude.{Ok, Err}
 use Rattle.effects.specs.Secrecy.{passwords_at, Locked, Hidden, Command, carries, carries_none}
 use Rattle.frame.proofs.Picks.{pick_true, pick_false, by_test}
 use Rattle.frame.proofs.Tests.{and_left, and_right, and_second, or_neither, either}
@@ -19,8 +20,8 @@ use Rattle.tag.proofs.NamedWords.{inside}
 use Rattle.tag.specs.Commands.{password_in, bank_in, pointer_in, count_in, data_in, ld_in, verdict, act_of, inventory_verdict, read_verdict, write_verdict, lock_verdict, kill_verdict}
 use Rattle.image.specs.Image.{good, view, bank_of, kill_password, access_password}
 use Rattle.tag.specs.Locks.{pairs, standing_of, standing, is_secured, kill_standing_of, kill_standing, allows, touches, may_touch_passwords, may_read, may_write}
-use Rattle.tag.specs.declared.commands.Act.{Act}
-use Rattle.tag.specs.declared.commands.Act.TheVariants.{PlainError, TagError, Notify, Give, Store, Set}
+use Rattle.tag.specs.Errors.{Verdict}
+use Rattle.tag.specs.declared.commands.Act.TheVariants.{Notify, Give, Store, Set}
 use Rattle.tag.specs.declared.commands.Parsed.{Parsed}
 use Rattle.image.specs.declared.header.View.{View}
 use Rattle.tag.specs.declared.locks.KillStanding.TheVariants.{Equal, Different}
@@ -116,13 +117,12 @@ pub record Kept (a x : List ℕ) : Type 0 where
   pub locks : (view x).locks ≡ (view a).locks
 
 -- nothing of an act touches the password bytes
-abbrev pub Public : View → Act → Type 0
-Public v (PlainError e) = Unit
-Public v (TagError e) = Unit
-Public v Notify = Unit
-Public v (Give at n) = v.reserved.offset + 8 ≤ at
-Public v (Store at) = v.reserved.offset + 8 ≤ at
-Public v (Set code at count value) = ⊥
+abbrev pub Public : View → Verdict → Type 0
+Public v (Err refusal) = Unit
+Public v (Ok Notify) = Unit
+Public v (Ok (Give at n)) = v.reserved.offset + 8 ≤ at
+Public v (Ok (Store at)) = v.reserved.offset + 8 ≤ at
+Public v (Ok (Set code at count value)) = ⊥
 
 accessing : (code n : ℕ) → code ≡ n → (eqb n 0x39 || eqb n 0x49 || eqb n 0x82) ≡ true → (eqb code 0x39 || eqb code 0x49 || eqb code 0x82) ≡ true
 accessing code n e h = subst (λ (k : ℕ). (eqb k 0x39 || eqb k 0x49 || eqb k 0x82) ≡ true) (sym e) h

@@ -7,6 +7,7 @@ use mathlib.Core.Bool.{true}
 use mathlib.Core.List.{List, [], ◌∷◌, ◌++◌}
 use mathlib.Core.Path.{◌≡◌, refl, ap, ap₂, sym, subst, ◌∙◌}
 use native.Mathlib.Omega.{arith}
+use Rattle.std.specs.Prelude.{Ok, Err}
 use Rattle.effects.proofs.Quiet.{Kept, Public}
 use Rattle.effects.proofs.Twins.{part_behind, same_crc, same_view, same_rssi, same_epc, same_word, same_tail}
 use Rattle.effects.specs.Secrecy.{passwords_at, EqualElsewhere, Command, carries_none, none_carries}
@@ -19,9 +20,10 @@ use Rattle.image.proofs.GoodImages.{Good, good_facts}
 use Rattle.tag.specs.Answers.{answer, crc_kept, changed}
 use Rattle.tag.specs.Commands.{bank_in, data_in}
 use Rattle.image.specs.Image.{good, view, bank_at, crc_word, with_crc, kill_password, access_password}
-use Rattle.tag.specs.declared.commands.Act.{Act}
+use Rattle.tag.specs.Errors.{tag_byte, Verdict}
 use Rattle.image.specs.declared.header.View.{View}
-use Rattle.tag.specs.declared.commands.Act.TheVariants.{PlainError, TagError, Notify, Give, Store, Set}
+use Rattle.tag.specs.declared.commands.Act.TheVariants.{Notify, Give, Store, Set}
+use Rattle.tag.specs.declared.errors.Refusal.TheVariants.{Plain, Tag}
 
 -- ---- a store behind the passwords
 
@@ -121,31 +123,30 @@ module _ (a b x y : List ℕ) (t : Pair a b x y) where
   sight = same_view (passwords_at a) x y t.elsewhere t.first.kept.place gx gy
 
   -- an act that touches no password is answered alike
-  pub same_answer : (act : Act) → Public (view x) act → answer x act ≡ answer y act
+  pub same_answer : (act : Verdict) → Public (view x) act → answer x act ≡ answer y act
   unfolding answer passwords_at
-  same_answer (PlainError e) p = refl
-  same_answer (TagError e) p = ap (λ (l : List ℕ). frame_of 0x01 0xFF (e ∷ l)) (same_tail (passwords_at a) x y t.elsewhere t.first.kept.place gx gy)
-  same_answer Notify p =
+  same_answer (Err (Plain e)) p = refl
+  same_answer (Err (Tag e)) p = ap (λ (l : List ℕ). frame_of 0x01 0xFF (tag_byte e ∷ l)) (same_tail (passwords_at a) x y t.elsewhere t.first.kept.place gx gy)
+  same_answer (Ok Notify) p =
       ap₂ (λ (r : ℕ) (l : List ℕ). frame_of 0x02 0x22 (r ∷ l))
       (same_rssi (passwords_at a) x y t.elsewhere t.first.kept.place gx gy)
       (ap₂ (λ (l m : List ℕ). l ++ m) (same_epc (passwords_at a) x y t.elsewhere t.first.kept.place gx gy)
       (same_word (passwords_at a) x y t.elsewhere t.first.kept.place gx gy))
-  same_answer (Give at n) p =
+  same_answer (Ok (Give at n)) p =
       ap₂ (λ (l m : List ℕ). frame_of 0x01 0x39 (l ++ m)) (same_tail (passwords_at a) x y t.elsewhere t.first.kept.place gx gy)
       (part_behind (passwords_at a) x y t.elsewhere at n (omega (arith, t.first.kept.place)))
-  same_answer (Store at) p =
+  same_answer (Ok (Store at)) p =
       ap (λ (l : List ℕ). frame_of 0x01 0x49 (l ++ (0x00 ∷ []))) (same_tail (passwords_at a) x y t.elsewhere t.first.kept.place gx gy)
-  same_answer (Set code at count value) p = absurd p
+  same_answer (Ok (Set code at count value)) p = absurd p
 
   -- and leaves the pair a pair
-  pub pair_after : (q : List ℕ) (act : Act) → Public (view x) act → good (changed x q act) ≡ true → good (changed y q act) ≡ true
+  pub pair_after : (q : List ℕ) (act : Verdict) → Public (view x) act → good (changed x q act) ≡ true → good (changed y q act) ≡ true
       → Pair a b (changed x q act) (changed y q act)
   unfolding changed passwords_at view bank_at
-  pair_after q (PlainError e) p hx hy = t
-  pair_after q (TagError e) p hx hy = t
-  pair_after q Notify p hx hy = t
-  pair_after q (Give at n) p hx hy = t
-  pair_after q (Store at) p hx hy =
+  pair_after q (Err refusal) p hx hy = t
+  pair_after q (Ok Notify) p hx hy = t
+  pair_after q (Ok (Give at n)) p hx hy = t
+  pair_after q (Ok (Store at)) p hx hy =
       let words : number x 10 ≡ number y 10 = ap (λ (v : View). v.epc.offset) sight in
       record {
         first = course a _ (spared_written a x t.first (bank_in q) at (data_in q) p) hx;
@@ -158,7 +159,7 @@ module _ (a b x y : List ℕ) (t : Pair a b x y) where
             (elsewhere_written (passwords_at a) x y t.elsewhere at (data_in q) (omega (arith, t.first.kept.place, gx.reserved_place))
             (omega (arith, t.first.kept.place)) (bank_in q) (number x 10) refl (omega (arith, t.first.kept.place, gx.epc_place)));
       }
-  pair_after q (Set code at count value) p hx hy = absurd p
+  pair_after q (Ok (Set code at count value)) p hx hy = absurd p
 
 -- ---- the commands of two lists
 

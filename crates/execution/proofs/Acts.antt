@@ -5,6 +5,7 @@ use lib.Seq.{sets, take_all}
 use mathlib.Core.List.{List}
 use mathlib.Core.Path.{◌≡◌, ap, ap₂, sym, ◌∙◌}
 use native.Mathlib.Omega.{arith}
+use Rattle.std.specs.Prelude.{Ok}
 use Rattle.frame.proofs.Copies.{copied_is}
 use Rattle.frame.proofs.Numbers.{length_bytes_of}
 use Rattle.frame.proofs.Stores.{set_join}
@@ -25,7 +26,7 @@ pub store_copied : (image p : List ℕ) (at : ℕ) (copies after : List ℕ) (wo
     → copies ≡ copied p 9 (length p - 9) image at
     → word ≡ number image 10
     → after ≡ crc_kept (byte p 4) word copies
-    → after ≡ changed image p (Store at)
+    → after ≡ changed image p (Ok (Store at))
 unfolding changed bank_in view bank_at
 store_copied image p at copies after word fields room e place kept =
     kept

@@ -10,14 +10,14 @@ use Rattle.frame.specs.Frames.{written}
 use Rattle.tag.specs.Answers.{answer, changed, is_error}
 use Rattle.tag.specs.Commands.{act_of}
 use Rattle.image.specs.Image.{good}
-use Rattle.tag.specs.declared.commands.Act.{Act}
+use Rattle.tag.specs.Errors.{Verdict}
 use Rattle.execution.proofs.Executions.{runs}
 use Rattle.execution.proofs.Reaches.{good_in_reach}
 use Rattle.execution.specs.Execution.{image_after, output_after, reported, result_of, Execution}
 use Rattle.execution.specs.declared.execute.Executed.{Executed}
 use Rattle.execution.specs.declared.execute.Executed.TheVariants.{Refused, Good, Error}
 
-pub record Ran (image output : List ℕ) (p : List ℕ) (act : Act) (image_left output_left : List ℕ) (result : Executed) : Type 0 where
+pub record Ran (image output : List ℕ) (p : List ℕ) (act : Verdict) (image_left output_left : List ℕ) (result : Executed) : Type 0 where
   pub image_is : image_left ≡ changed image p act
   pub output_is : output_left ≡ written (answer image act) output
   pub result_is : result ≡ reported act (length (answer image act))
@@ -33,7 +33,7 @@ ran image output code p image_left output_left result h room e =
     }
 
 -- the kind of an act, and the length of its answer, from the result
-module _ (act : Act) (m : ℕ) where
+module _ (act : Verdict) (m : ℕ) where
   pub told_refused : Refused ≡ reported act m → ⊥
   unfolding reported
   told_refused =

@@ -10,7 +10,7 @@ use Rattle.frame.proofs.Picks.{pick_true, pick_false}
 use Rattle.frame.specs.Frames.{longest_answer}
 use Rattle.tag.specs.Answers.{answer, changed, is_error}
 use Rattle.tag.specs.Commands.{act_of}
-use Rattle.tag.specs.declared.commands.Act.{Act}
+use Rattle.tag.specs.Errors.{Verdict}
 use Rattle.execution.specs.Execution.{executable, image_after, output_after, reported, result_of, FrameWritten, Acted, Execution}
 use Rattle.execution.specs.Reach.{answerable, has_named, in_reach}
 use Rattle.execution.specs.declared.execute.Executed.{Executed}
@@ -18,7 +18,7 @@ use Rattle.execution.specs.declared.execute.Executed.TheVariants.{Refused, Good,
 
 -- ---- an act
 
-module _ (image output p : List ℕ) (act : Act) where
+module _ (image output p : List ℕ) (act : Verdict) where
   pub undone : has_named image p act ≡ false → Acted image output p act image output Refused
   undone lacks = record { image_is = simp (lacks, pick_false); output_is = simp (lacks, pick_false); result_is = simp (lacks, pick_false) }
 
@@ -45,7 +45,7 @@ module _ (image output p : List ℕ) (act : Act) where
 
 -- ---- a command
 
-pub runs : (image output p : List ℕ) (act : Act) → 136 ≤ length output → in_reach image p act ≡ true → executable image output p act ≡ true
+pub runs : (image output p : List ℕ) (act : Verdict) → 136 ≤ length output → in_reach image p act ≡ true → executable image output p act ≡ true
 unfolding executable longest_answer
 runs image output p act room h = simp (le-leb 136 (length output) room, h)
 
@@ -65,7 +65,7 @@ module _ (image output : List ℕ) (code : ℕ) (p : List ℕ) where
     refused_out out = unexecuted (simp (le-leb 136 (length output) room, out))
 
     -- the act, told apart, is done or undone
-    pub executed : answerable image ≡ true → {act told : Act} → act ≡ act_of image code p → act ≡ told
+    pub executed : answerable image ≡ true → {act told : Verdict} → act ≡ act_of image code p → act ≡ told
         → {image_left output_left : List ℕ} {result : Executed}
         → Acted image output p told image_left output_left result → Execution image output code p image_left output_left result
     unfolding image_after output_after result_of executable longest_answer in_reach

@@ -14,21 +14,29 @@ use Rattle.frame.specs.Frames.{frame_of}
 use Rattle.frame.specs.Putting.{Put}
 use Rattle.tag.specs.Answers.{tail, answer}
 use Rattle.image.specs.Image.{view, bank_at, rssi, pc_and_epc}
-use Rattle.tag.specs.declared.commands.Act.TheVariants.{TagError, Notify, Give}
+use Rattle.tag.specs.declared.commands.Act.TheVariants.{Notify, Give}
+use Rattle.tag.specs.declared.errors.PlainError.{PlainError}
+use Rattle.tag.specs.declared.errors.Refusal.TheVariants.{Tag}
+use Rattle.tag.specs.declared.errors.TagError.{TagError}
+use Rattle.tag.specs.Errors.{plain_byte, tag_byte}
+use Rattle.std.specs.Prelude.{Ok, Err}
 use Rattle.execution.proofs.Rounds.{closed_round}
 use Rattle.execution.specs.Execution.{FrameWritten}
 
 module _ (output : List ℕ) (room : 136 ≤ length output) where
-  pub plain_closed : (e : ℕ) (after : List ℕ) (result : ℕ) → Closing 0x01 0xFF 1 (set output 5 e) after result
-      → FrameWritten (frame_of 0x01 0xFF (e ∷ [])) output after result
-  plain_closed e after result = closed_round 0x01 0xFF (e ∷ []) output (omega arith) room (set output 5 e) refl 1 refl after result
+  pub plain_closed : (e : PlainError) (byte : ℕ) → byte ≡ plain_byte e → (after : List ℕ) (result : ℕ) → Closing 0x01 0xFF 1 (set output 5 byte) after result
+      → FrameWritten (frame_of 0x01 0xFF (plain_byte e ∷ [])) output after result
+  plain_closed e byte is after result =
+      closed_round 0x01 0xFF (plain_byte e ∷ []) output (omega arith) room (set output 5 byte) (ap (set output 5) is) 1 refl after result
 
   module _ (image : List ℕ) where
-    pub tag_error_closed : (e : ℕ) (stored : List ℕ) (next : ℕ) → Put (tail image) 6 (set output 5 e) stored next → next ≤ 71
-        → (after : List ℕ) (result : ℕ) → Closing 0x01 0xFF (next - 5) stored after result → FrameWritten (answer image (TagError e)) output after result
+    pub tag_error_closed : (e : TagError) (byte : ℕ) → byte ≡ tag_byte e
+        → (stored : List ℕ) (next : ℕ) → Put (tail image) 6 (set output 5 byte) stored next → next ≤ 71
+        → (after : List ℕ) (result : ℕ) → Closing 0x01 0xFF (next - 5) stored after result → FrameWritten (answer image (Err (Tag e))) output after result
     unfolding answer
-    tag_error_closed e stored next put short =
-        closed_round 0x01 0xFF (e ∷ tail image) output (omega (arith, put.next_is)) room stored put.output_is (next - 5) (omega (arith, put.next_is))
+    tag_error_closed e byte is stored next put short =
+        closed_round 0x01 0xFF (tag_byte e ∷ tail image) output (omega (arith, put.next_is)) room stored
+        (put.output_is ∙ ap (λ (b : ℕ). sets (set output 5 b) 6 (tail image)) is) (next - 5) (omega (arith, put.next_is))
 
     pub done_closed : (code : ℕ) (stored : List ℕ) (next : ℕ) → Put (tail image) 5 output stored next → next ≤ 70
         → (after : List ℕ) (result : ℕ) → Closing 0x01 code (next + 1 - 5) (set stored next 0) after result
@@ -44,7 +52,7 @@ module _ (output : List ℕ) (room : 136 ≤ length output) where
     module _ (at n : ℕ) (there : at + n ≤ length image) (some : n ≤ 64) where
       pub give_closed : (stored : List ℕ) (next : ℕ) → Put (tail image) 5 output stored next → next ≤ 70
           → (copies : List ℕ) → copies ≡ copied image at n stored next
-          → (after : List ℕ) (result : ℕ) → Closing 0x01 0x39 (next + n - 5) copies after result → FrameWritten (answer image (Give at n)) output after result
+          → (after : List ℕ) (result : ℕ) → Closing 0x01 0x39 (next + n - 5) copies after result → FrameWritten (answer image (Ok (Give at n))) output after result
       unfolding answer
       give_closed stored next put short copies c =
           let words : length (part image at n) ≡ n = length_part_inside image at n there in
@@ -65,7 +73,7 @@ module _ (output : List ℕ) (room : 136 ≤ length output) where
         → Put (pc_and_epc image) 6 (set output 5 strength) stored next → next ≤ 70
         → (word : ℕ) → word ≡ number image 10 → word + 2 ≤ length image
         → (copies : List ℕ) → copies ≡ copied image word 2 stored next
-        → (after : List ℕ) (result : ℕ) → Closing 0x02 0x22 (next + 2 - 5) copies after result → FrameWritten (answer image Notify) output after result
+        → (after : List ℕ) (result : ℕ) → Closing 0x02 0x22 (next + 2 - 5) copies after result → FrameWritten (answer image (Ok Notify)) output after result
     unfolding answer rssi view bank_at
     notify_closed strength s stored next put short word place there copies c =
         let crc : List ℕ = part image (number image 10) 2 in

@@ -6,6 +6,7 @@ use lib.ListN.{length, length-drop}
 use mathlib.Core.Bool.{true, false, and-false}
 use mathlib.Core.List.{List}
 use mathlib.Core.Path.{◌≡◌}
+use Rattle.std.specs.Prelude.{Ok}
 use Rattle.frame.proofs.Tests.{and_right}
 use Rattle.frame.specs.Bytes.{reaches}
 use Rattle.tag.specs.Commands.{data_in}
@@ -31,26 +32,26 @@ module _ (image : List ℕ) where
 
 module _ (image p : List ℕ) (at : ℕ) where
   module _ (n : ℕ) where
-    pub given_long : 64 < n → has_named image p (Give at n) ≡ false
+    pub given_long : 64 < n → has_named image p (Ok (Give at n)) ≡ false
     unfolding has_named
     given_long h = simp (lt-leb n 64 h)
 
-    pub given_out : reaches image at n ≡ false → has_named image p (Give at n) ≡ false
+    pub given_out : reaches image at n ≡ false → has_named image p (Ok (Give at n)) ≡ false
     unfolding has_named
     given_out h = simp (h, and-false)
 
-    pub given_there : n ≤ 64 → reaches image at n ≡ true → has_named image p (Give at n) ≡ true
+    pub given_there : n ≤ 64 → reaches image at n ≡ true → has_named image p (Ok (Give at n)) ≡ true
     unfolding has_named
     given_there few h = simp (le-leb n 64 few, h)
 
-  pub stored_short : length p < 9 → has_named image p (Store at) ≡ false
+  pub stored_short : length p < 9 → has_named image p (Ok (Store at)) ≡ false
   unfolding has_named
   stored_short h = simp (lt-leb 9 (length p) h)
 
-  pub stored_out : reaches image at (length p - 9) ≡ false → has_named image p (Store at) ≡ false
+  pub stored_out : reaches image at (length p - 9) ≡ false → has_named image p (Ok (Store at)) ≡ false
   unfolding has_named data_in
   stored_out h = simp (length-drop, h, and-false)
 
-  pub stored_there : 9 ≤ length p → reaches image at (length p - 9) ≡ true → has_named image p (Store at) ≡ true
+  pub stored_there : 9 ≤ length p → reaches image at (length p - 9) ≡ true → has_named image p (Ok (Store at)) ≡ true
   unfolding has_named data_in
   stored_there fields h = simp (length-drop, le-leb 9 (length p) fields, h)

@@ -1,10 +1,10 @@
 -- What a command needs of the image, good or not: the header, the PC and the EPC for the answer, and the bytes that its act names.
-use Rattle.std.specs.Prelude.{ℕ, ◌+◌, ◌*◌, Bool, true, ◌&&◌, List, leb, length}
+use Rattle.std.specs.Prelude.{ℕ, ◌+◌, ◌*◌, Bool, true, ◌&&◌, List, Ok, Err, leb, length}
 use Rattle.frame.specs.Bytes.{reaches}
 use Rattle.tag.specs.Commands.{data_in}
 use Rattle.image.specs.Image.{view, word_at, epc_length}
-use Rattle.tag.specs.declared.commands.Act.{Act}
-use Rattle.tag.specs.declared.commands.Act.TheVariants.{PlainError, TagError, Notify, Give, Store, Set}
+use Rattle.tag.specs.Errors.{Verdict}
+use Rattle.tag.specs.declared.commands.Act.TheVariants.{Notify, Give, Store, Set}
 
 -- the PC and the L words behind it are there
 unfoldable pub has_epc : List ℕ → Bool
@@ -16,13 +16,12 @@ answerable image = leb 24 (length image) && has_epc image
 
 -- the bytes of a Read, no more than 32 words, are there; so is the room for a Write's data, which follow the first nine of the
 -- parameters `p`, and for what a Lock or a Kill sets
-unfoldable pub has_named : List ℕ → List ℕ → Act → Bool
-has_named image p (PlainError e) = true
-has_named image p (TagError e) = true
-has_named image p Notify = true
-has_named image p (Give at n) = leb n 64 && reaches image at n
-has_named image p (Store at) = leb 9 (length p) && reaches image at (length (data_in p))
-has_named image p (Set code at count value) = reaches image at count
+unfoldable pub has_named : List ℕ → List ℕ → Verdict → Bool
+has_named image p (Err refusal) = true
+has_named image p (Ok Notify) = true
+has_named image p (Ok (Give at n)) = leb n 64 && reaches image at n
+has_named image p (Ok (Store at)) = leb 9 (length p) && reaches image at (length (data_in p))
+has_named image p (Ok (Set code at count value)) = reaches image at count
 
-unfoldable pub in_reach : List ℕ → List ℕ → Act → Bool
-in_reach image p act = answerable image && has_named image p act
+unfoldable pub in_reach : List ℕ → List ℕ → Verdict → Bool
+in_reach image p verdict = answerable image && has_named image p verdict

@@ -9,6 +9,7 @@ use frame::bytes::reaches;
 use image::header::epc_span;
 use tag::acts::act_of;
 use tag::commands::Act;
+use tag::errors::Refusal;
 
 // How a command went: nothing was done, or an answer of this many bytes was written.
 #[derive(Clone, Copy)]
@@ -42,18 +43,19 @@ pub fn execute(image: &mut [u8], output: &mut [u8], code: u8, parameters: &[u8])
     if !is_answerable(image) {
         return Executed::Refused;
     }
-    let act = act_of(image, code, parameters);
-    match act {
-        Act::PlainError(e) => Executed::Error(plain_error(output, e)),
-        Act::TagError(e) => Executed::Error(tag_error(image, output, e)),
-        Act::Notify => Executed::Good(notify(image, output)),
-        Act::Give { at, length } => give(image, output, at, length),
-        Act::Store { at } => store(image, output, parameters, at),
-        Act::Set {
-            code: c,
-            at,
-            count,
-            value,
-        } => set(image, output, c, at, count, value),
+    match act_of(image, code, parameters) {
+        Err(Refusal::Plain(e)) => Executed::Error(plain_error(output, e)),
+        Err(Refusal::Tag(e)) => Executed::Error(tag_error(image, output, e)),
+        Ok(Act::Notify) => Executed::Good(notify(image, output)),
+        Ok(Act::Give { at, length }) => give(image, output, at, length),
+        Ok(Act::Store { at }) => store(image, output, parameters, at),
+        Ok(
+            Act::Set {
+                code: c,
+                at,
+                count,
+                value,
+            },
+        ) => set(image, output, c, at, count, value),
     }
 }

@@ -1,6 +1,6 @@
 // The acts that store (document 01, "The commands"). Each tests that the bytes it stores have their place in the image, answers, and
 // then stores.
-ghost use Rattle.std.specs.Prelude.{◌≡◌, true, List, ℕ, ◌+◌, ◌≤◌, length};
+ghost use Rattle.std.specs.Prelude.{◌≡◌, true, List, ℕ, Ok, ◌+◌, ◌≤◌, length};
 ghost use Rattle.tag.specs.Answers.{crc_kept};
 ghost use Rattle.tag.specs.declared.commands.Act.TheVariants.{Store, Set};
 ghost use Rattle.execution.specs.Execution.{Acted};
@@ -22,13 +22,13 @@ fn keep_crc(image: &mut [u8], bank: u8, at: usize)
         return;
     }
     let crc = crc_of_epc(image);
-    put_bytes(image, at, 2, crc as usize);
+    put_bytes(image, at, 2, usize::from(crc));
 }
 
 // A Write's data are what follows the first nine of its parameters.
 pub(crate) fn store(image: &mut [u8], output: &mut [u8], parameters: &[u8], at: usize) -> Executed
     requires { (has_epc image.old ≡ true) × (136 ≤ length output.old) }
-    ensures { Acted image.old output.old parameters.now (Store at) image.new output.new result }
+    ensures { Acted image.old output.old parameters.now (Ok (Store at)) image.new output.new result }
 {
     if parameters.len() < 9 {
         return Executed::Refused;
@@ -37,7 +37,7 @@ pub(crate) fn store(image: &mut [u8], output: &mut [u8], parameters: &[u8], at: 
     if !reaches(image, at, n) {
         return Executed::Refused;
     }
-    let word = number_at(image, 10);
+    let word = usize::from(number_at(image, 10));
     let length = done(image, output, 0x49);
     copy(parameters, 9, n, image, at);
     keep_crc(image, parameters[4], word);
@@ -54,7 +54,7 @@ pub(crate) fn set(
     value: usize,
 ) -> Executed
     requires { (has_epc image.old ≡ true) × (136 ≤ length output.old) }
-    ensures { (p : List ℕ) → Acted image.old output.old p (Set code at count value) image.new output.new result }
+    ensures { (p : List ℕ) → Acted image.old output.old p (Ok (Set code at count value)) image.new output.new result }
 {
     if !reaches(image, at, count) {
         return Executed::Refused;

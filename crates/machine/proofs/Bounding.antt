@@ -47,7 +47,7 @@ use Rattle.reader.specs.declared.tally.Tally.{Tally}
 use Rattle.tag.proofs.AnswerBytes.{answer_most}
 use Rattle.tag.specs.Answers.{answer, is_error}
 use Rattle.tag.specs.Commands.{act_of}
-use Rattle.tag.specs.declared.commands.Act.{Act}
+use Rattle.tag.specs.Errors.{Verdict}
 
 -- no more tags are left than there are numbers from the next on
 fewer_left : (u : State) → u.tags ≤ 16 → tags_left (waiting u) ≤ 16 - u.next
@@ -57,13 +57,13 @@ fewer_left u few =
     (λ n l m passes none. omega arith)
 
 -- a command leaves none, but an inventory, which leaves 15 at most
-next_least : (a : Aimed) (act : Act) → 1 ≤ next_after a act
+next_least : (a : Aimed) (act : Verdict) → 1 ≤ next_after a act
 unfolding next_after
 next_least a act =
     by_test (λ (k : ℕ). 1 ≤ k) (is_error act) (λ _. omega arith)
     (λ _. by_test (λ (k : ℕ). 1 ≤ k) (eqb a.code 0x22) (λ _. omega arith) (λ _. omega arith))
 
-next_other : (a : Aimed) (act : Act) → eqb a.code 0x22 ≡ false → next_after a act ≡ 16
+next_other : (a : Aimed) (act : Verdict) → eqb a.code 0x22 ≡ false → next_after a act ≡ 16
 unfolding next_after
 next_other a act h = by_test (λ (k : ℕ). k ≡ 16) (is_error act) (λ _. refl) (λ _. simp (h, pick_false))
 

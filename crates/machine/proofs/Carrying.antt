@@ -35,10 +35,10 @@ use Rattle.reader.specs.Tallies.{with_good, with_error}
 use Rattle.tag.specs.Answers.{answer, changed, is_error}
 use Rattle.tag.specs.Claims.{comes_to, framed, outcome}
 use Rattle.tag.specs.Commands.{act_of}
-use Rattle.tag.specs.declared.commands.Act.{Act}
+use Rattle.tag.specs.Errors.{Verdict}
 
 -- only an inventory leaves tags to hand out
-other_next : (a : Aimed) (act : Act) → a.code ≢ 0x22 → next_after a act ≡ 16
+other_next : (a : Aimed) (act : Verdict) → a.code ≢ 0x22 → next_after a act ≡ 16
 unfolding next_after
 other_next a act d = by_test (λ (k : ℕ). k ≡ 16) (is_error act) (λ _. refl) (λ _. simp (ne_eqb a.code 0x22 d, pick_false))
 
@@ -67,7 +67,7 @@ module _ (c : Call) (s : State) (pl : ℕ) (a : Accepts (input_of c) s pl) where
   carried_out_lem n p tag =
       let image : List ℕ = image_at s.memory p in
       let code : ℕ = code_at (input_of c) cursor in
-      let act : Act = act_of image code given in
+      let act : Verdict = act_of image code given in
       let there : inside s.memory p ≡ true =
       lowest_inside s.memory s.tags s.places s.selection 0 a.tested.population_good n p tag
       in

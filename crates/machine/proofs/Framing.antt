@@ -4,6 +4,7 @@ use lib.ListN.{length, length-drop}
 use mathlib.Core.List.{List, [], ◌∷◌}
 use mathlib.Core.Path.{◌≡◌, refl, ap}
 use native.Mathlib.Omega.{arith}
+use Rattle.std.specs.Prelude.{Ok, Err}
 use Rattle.reader.specs.Outcomes.{number_of}
 use Rattle.machine.proofs.Lowests.{lowest_good}
 use Rattle.machine.proofs.Steps.{Tested, Accepts, hand_out_at, command_at, found_tag, frame_inside, step_cases}
@@ -22,20 +23,21 @@ use Rattle.reader.specs.declared.state.Reader.{Reader}
 use Rattle.tag.proofs.AnswerBytes.{answer_most}
 use Rattle.tag.specs.Answers.{answer}
 use Rattle.tag.specs.Commands.{act_of}
-use Rattle.tag.specs.declared.commands.Act.{Act}
-use Rattle.tag.specs.declared.commands.Act.TheVariants.{PlainError, TagError, Notify, Give, Store, Set}
+use Rattle.tag.specs.Errors.{Verdict}
+use Rattle.tag.specs.declared.commands.Act.TheVariants.{Notify, Give, Store, Set}
+use Rattle.tag.specs.declared.errors.Refusal.TheVariants.{Plain, Tag as OfTag}
 
 frame_some : (type code : ℕ) (p : List ℕ) → 0 < length (frame_of type code p)
 frame_some type code p = omega (arith, length_frame type code p)
 
-answer_some : (image : List ℕ) (act : Act) → 0 < length (answer image act)
+answer_some : (image : List ℕ) (act : Verdict) → 0 < length (answer image act)
 unfolding answer
-answer_some image (PlainError e) = frame_some _ _ _
-answer_some image (TagError e) = frame_some _ _ _
-answer_some image Notify = frame_some _ _ _
-answer_some image (Give at n) = frame_some _ _ _
-answer_some image (Store at) = frame_some _ _ _
-answer_some image (Set code at count value) = frame_some _ _ _
+answer_some image (Err (Plain e)) = frame_some _ _ _
+answer_some image (Err (OfTag e)) = frame_some _ _ _
+answer_some image (Ok Notify) = frame_some _ _ _
+answer_some image (Ok (Give at n)) = frame_some _ _ _
+answer_some image (Ok (Store at)) = frame_some _ _ _
+answer_some image (Ok (Set code at count value)) = frame_some _ _ _
 
 -- no tag waits, and one does
 apart : {C : Type 0} (s : State) (n : ℕ) (p : Place) → waiting s ≡ no_tag → waiting s ≡ tag_at n p → C

@@ -37,7 +37,7 @@ use Rattle.reader.proofs.Tallies.{not_full, raised_below}
 use Rattle.tag.specs.Answers.{answer, changed, is_error}
 use Rattle.tag.specs.Claims.{outcome}
 use Rattle.tag.specs.Commands.{act_of}
-use Rattle.tag.specs.declared.commands.Act.{Act}
+use Rattle.tag.specs.Errors.{Verdict}
 use Rattle.tag.specs.declared.commands.Act.TheVariants.{Notify}
 
 -- ---- one hand-out
@@ -203,7 +203,7 @@ module _ (s : State) (a : Aimed) (p : List ℕ) (code : a.code ≡ 0x22) (empty 
   inventory_memory : inside s.memory a.place ≡ true → (aimed s a p).next.memory ≡ s.memory
   unfolding aimed acted image_for changed
   inventory_memory there =
-      ap (λ (act : Act). replaced s.memory a.place (changed (image_at s.memory a.place) p act)) notifies ∙ replaced_same s.memory a.place there
+      ap (λ (act : Verdict). replaced s.memory a.place (changed (image_at s.memory a.place) p act)) notifies ∙ replaced_same s.memory a.place there
 
   inventory_next : (aimed s a p).next.next ≡ a.number + 1
   unfolding aimed acted next_after is_error

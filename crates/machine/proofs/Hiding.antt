@@ -23,7 +23,7 @@ use Rattle.population.specs.declared.places.Place.{Place}
 use Rattle.tag.proofs.StaysGood.{stays_good}
 use Rattle.tag.specs.Answers.{answer, changed}
 use Rattle.tag.specs.Commands.{act_of}
-use Rattle.tag.specs.declared.commands.Act.{Act}
+use Rattle.tag.specs.Errors.{Verdict}
 
 -- ---- one tag
 
@@ -63,9 +63,9 @@ module _ (differs : Bool) (a b x y : List ℕ) (code : ℕ) (p : List ℕ) where
       same_act a b x y s.first_hidden s.second_hidden t.first.kept t.second.kept (sight a b x y t) p code ua ub
       in
       let pair : Pair a b (changed x p (act_of x code p)) (changed y p (act_of y code p)) =
-      subst (λ (act : Act). Pair a b (changed x p (act_of x code p)) (changed y p act)) same
+      subst (λ (act : Verdict). Pair a b (changed x p (act_of x code p)) (changed y p act)) same
       (pair_after a b x y t p (act_of x code p) open-act (stays_good x p code t.first.kept.image_good)
-      (subst (λ (act : Act). good (changed y p act) ≡ true) (sym same) (stays_good y p code t.second.kept.image_good)))
+      (subst (λ (act : Verdict). good (changed y p act) ≡ true) (sym same) (stays_good y p code t.second.kept.image_good)))
       in
       record {
         act = same;

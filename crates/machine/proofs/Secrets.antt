@@ -42,7 +42,7 @@ use Rattle.population.specs.Selections.{taken, good_selection}
 use Rattle.std.specs.Prelude.{Option}
 use Rattle.population.specs.declared.places.Place.{Place}
 use Rattle.reader.specs.declared.state.Reader.{Reader}
-use Rattle.tag.specs.declared.commands.Act.{Act}
+use Rattle.tag.specs.Errors.{Verdict}
 
 -- an inventory carries no password
 inventory_untold : (a : List ℕ) → Untold a record { code = 0x22; parameters = [] }
@@ -129,7 +129,7 @@ module _ (tags : ℕ) (places : List Place) (differs : ℕ → Bool) (a b : List
             length = ap (λ (l : List ℕ). lib.ListN.length l) both.frame;
             selection = refl;
             output = ap (λ (l : List ℕ). written l output) both.frame;
-            reader = ap (λ (act : Act). reader_of behind (counted act reader.tally)) both.act;
+            reader = ap (λ (act : Verdict). reader_of behind (counted act reader.tally)) both.act;
             next = ap (next_after g) both.act;
             first_stays = refl;
             second_stays = refl;

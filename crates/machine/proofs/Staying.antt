@@ -8,6 +8,7 @@ use mathlib.Core.List.{List, [], ◌∷◌, ◌++◌, append_assoc}
 use mathlib.Core.Logic.{◌⊎◌, ◌≢◌, inl, inr}
 use mathlib.Core.Path.{◌≡◌, refl, ap, sym, subst, ◌∙◌}
 use native.Mathlib.Omega.{arith}
+use Rattle.std.specs.Prelude.{Ok}
 use Rattle.machine.proofs.Lowests.{TheLowest}
 use Rattle.machine.proofs.Steps.{Tested, found_tag, hand_out_at, command_at, step_cases}
 use Rattle.machine.specs.Claims.{StoredAt, OneTagOnly, StillGood, GoodStaysGood}
@@ -31,7 +32,7 @@ use Rattle.population.specs.declared.places.Place.{Place}
 use Rattle.tag.proofs.StaysGood.{stays_good}
 use Rattle.tag.specs.Answers.{changed}
 use Rattle.tag.specs.Commands.{parse, parse_inventory, gone, if_present, inventory_verdict, verdict, act_of}
-use Rattle.tag.specs.declared.commands.Act.{Act}
+use Rattle.tag.specs.Errors.{Verdict}
 use Rattle.tag.specs.declared.commands.Act.TheVariants.{Notify}
 use borrow.Author.Tests.{eqb-true}
 use Rattle.frame.proofs.Tests.{and_left, and_right}
@@ -50,7 +51,7 @@ replaced_same memory p h =
     ∙ take-append-drop p.from memory
 
 -- a present tag answers an inventory with its notification
-pub present_notifies : (image : List ℕ) → byte image 22 ≡ 0 → act_of image 0x22 [] ≡ Notify
+pub present_notifies : (image : List ℕ) → byte image 22 ≡ 0 → act_of image 0x22 [] ≡ Ok Notify
 unfolding act_of parse parse_inventory verdict inventory_verdict if_present gone view
 present_notifies image h = simp (h, pick_true, pick_false)
 
@@ -121,7 +122,7 @@ module _ (input : List ℕ) (s : State) (t : Tested input s) (n : ℕ) (p : Plac
   unfolding aimed acted image_for changed
   hand_out_stores_nothing =
       let facts = population_facts s.memory s.tags s.places t.population_good in
-      ap (λ (act : Act). replaced s.memory p (changed (image_at s.memory p) [] act)) hand_out_notifies
+      ap (λ (act : Verdict). replaced s.memory p (changed (image_at s.memory p) [] act)) hand_out_notifies
       ∙ replaced_same s.memory p (subst (λ (q : Place). inside s.memory q ≡ true) (sym tag.at_place) (facts.within n tag.one_of))
 
 -- ---- Set Select leaves memory, tags and places, and a good selection

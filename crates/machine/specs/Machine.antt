@@ -26,7 +26,7 @@ use Rattle.reader.specs.declared.state.Reader.{Reader}
 use Rattle.reader.specs.declared.tally.Tally.{Tally}
 use Rattle.tag.specs.Answers.{answer, changed, is_error}
 use Rattle.tag.specs.Commands.{parse, act_of}
-use Rattle.tag.specs.declared.commands.Act.{Act}
+use Rattle.tag.specs.Errors.{Verdict}
 use Rattle.tag.specs.declared.commands.Parsed.{Parsed}
 use Rattle.tag.specs.declared.commands.Parsed.TheVariants.{Malformed, Inventory, Read, Write, Lock, Kill}
 
@@ -121,7 +121,7 @@ decide input s =
 -- ---- and what that comes to
 
 -- "Each answer 0 or 3 raises exactly one of them by one"
-unfoldable pub counted : Act → Tally → Tally
+unfoldable pub counted : Verdict → Tally → Tally
 counted act t = pick (is_error act) (with_error t) (with_good t)
 
 -- "Under 1, 2 and 10 to 13 the next state is the old one"
@@ -164,17 +164,17 @@ unfoldable pub missed : State → ℕ → ℕ → Step
 missed s e behind = told s (plain_error e) s.selection (reader_of behind (with_error s.reader.tally))
 
 -- Only an inventory that found a tag leaves tags to hand out: those behind it.
-unfoldable pub next_after : Aimed → Act → ℕ
+unfoldable pub next_after : Aimed → Verdict → ℕ
 next_after a act = pick (is_error act) 16 (pick (eqb a.code 0x22) (a.number + 1) 16)
 
 -- the image that a command for one tag is for, and what the command comes to on it
 unfoldable pub image_for : State → Aimed → List ℕ
 image_for s a = image_at s.memory a.place
 
-unfoldable pub act_for : State → Aimed → List ℕ → Act
+unfoldable pub act_for : State → Aimed → List ℕ → Verdict
 act_for s a p = act_of (image_for s a) a.code p
 
-unfoldable pub acted : State → Aimed → List ℕ → Act → Step
+unfoldable pub acted : State → Aimed → List ℕ → Verdict → Step
 acted s a p act =
     record {
       outcome = Answered;

@@ -4,7 +4,7 @@ ghost use Rattle.machine.specs.Machine.{error_without};
 ghost use Rattle.tag.specs.Commands.{parse};
 
 use tag::acts::act_of;
-use tag::commands::Act;
+use tag::errors::Refusal;
 
 // The header of a tag that is out of the field, and nothing behind it: whatever a command asks, such a tag answers as none does.
 const ABSENT: [u8; 24] = [
@@ -15,11 +15,9 @@ const ABSENT: [u8; 24] = [
 pub fn error_without(code: u8, parameters: &[u8]) -> u8
     ensures { result ≡ error_without (parse code parameters.now) }
 {
-    let absent = ABSENT;
-    let act = act_of(&absent, code, parameters);
-    // It is always a plain error.
-    let Act::PlainError(e) = act else {
+    let Err(Refusal::Plain(e)) = act_of(&ABSENT, code, parameters) else {
+        // It is always a plain error.
         return 0x17;
     };
-    e
+    u8::from(e)
 }

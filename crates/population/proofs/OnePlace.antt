@@ -7,6 +7,7 @@ use mathlib.Core.Bool.{true, false, true≢false}
 use mathlib.Core.List.{List}
 use mathlib.Core.Path.{◌≡◌, refl, ap, sym, ◌∙◌}
 use native.Mathlib.Omega.{arith}
+use Rattle.std.specs.Prelude.{Ok, Err}
 use Rattle.execution.specs.Execution.{executable, image_after, Execution}
 use Rattle.execution.specs.declared.execute.Executed.{Executed}
 use Rattle.frame.proofs.Copies.{there_reaches}
@@ -16,8 +17,8 @@ use Rattle.frame.specs.Bytes.{byte}
 use Rattle.image.specs.Image.{with_crc}
 use Rattle.tag.specs.Answers.{crc_kept, changed}
 use Rattle.tag.specs.Commands.{bank_in, act_of}
-use Rattle.tag.specs.declared.commands.Act.{Act}
-use Rattle.tag.specs.declared.commands.Act.TheVariants.{PlainError, TagError, Notify, Give, Store, Set}
+use Rattle.tag.specs.Errors.{Verdict}
+use Rattle.tag.specs.declared.commands.Act.TheVariants.{Notify, Give, Store, Set}
 use Rattle.population.proofs.Executes.{inside_there, image_length}
 use Rattle.population.proofs.GoodPopulations.{population_facts}
 use Rattle.population.proofs.Images.{length_replaced, image_same, image_other, byte_outside}
@@ -28,15 +29,14 @@ use Rattle.population.specs.declared.places.Place.{Place}
 
 -- ---- a command keeps the length of its image
 
-pub length_changed : (image p : List ℕ) (act : Act) → length (changed image p act) ≡ length image
+pub length_changed : (image p : List ℕ) (act : Verdict) → length (changed image p act) ≡ length image
 unfolding changed crc_kept with_crc
-length_changed image p (PlainError e) = refl
-length_changed image p (TagError e) = refl
-length_changed image p Notify = refl
-length_changed image p (Give at n) = refl
-length_changed image p (Store at) =
+length_changed image p (Err refusal) = refl
+length_changed image p (Ok Notify) = refl
+length_changed image p (Ok (Give at n)) = refl
+length_changed image p (Ok (Store at)) =
     by_test (λ (l : List ℕ). length l ≡ length image) (eqb (bank_in p) 1) (λ _. simp length-sets) (λ _. simp length-sets)
-length_changed image p (Set code at count value) = simp length-sets
+length_changed image p (Ok (Set code at count value)) = simp length-sets
 
 pub length_after : (image output : List ℕ) (code : ℕ) (p : List ℕ) → length (image_after image output code p) ≡ length image
 unfolding image_after

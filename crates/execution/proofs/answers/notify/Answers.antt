@@ -1,6 +1,7 @@
 -- `notify` meets its contract: RSSI, PC, EPC and the CRC word, and the frame round them.
 use borrow.Author.Rules.{rules}
 use lib.ListN.{length-set}
+use mathlib.Core.Path.{◌∙◌}
 use native.Mathlib.Omega.{arith}
 use Rattle.execution.proofs.Pieces.{notify_closed}
 use Rattle.execution.proofs.Tails.{word_there}
@@ -18,5 +19,5 @@ pub returns : goal.returns
 unfolding view bank_at
 returns c =
     notify_closed _ c.requires.1 _ _ c.byte_at.ensures _ _ c.put_pc_and_epc-next.ensures.put c.put_pc_and_epc-next.ensures.upper_bound
-    _ c.number_at.ensures.value (omega (arith, word_there _ c.requires.0, c.number_at.ensures.value)) _ c.copy.ensures _ _
+    _ (c.from.ensures ∙ c.number_at.ensures) (omega (arith, word_there _ c.requires.0, c.from.ensures, c.number_at.ensures)) _ c.copy.ensures _ _
     c.close.ensures

@@ -10,8 +10,8 @@ put_tail-next-requires c = (search rules, simp length-set (omega arith))
 
 pub shape_of-output : goal.shape_of-output
 shape_of-output c =
-    omega (arith, length-set c.args.output.now 5 c.args.e)
+    omega (arith, length-set c.args.output.now 5 c.from.result)
 
 pub returns : goal.returns
 returns c =
-    tag_error_closed _ c.requires.1 _ _ _ _ c.put_tail-next.ensures.put c.put_tail-next.ensures.upper_bound _ _ c.close.ensures
+    tag_error_closed _ c.requires.1 _ _ _ c.from.ensures _ _ c.put_tail-next.ensures.put c.put_tail-next.ensures.upper_bound _ _ c.close.ensures

@@ -1,5 +1,5 @@
 -- `execute` meets its contract: the tests that all commands share, and then act by act.
-use mathlib.Core.Path.{refl}
+use Rattle.std.proofs.Common.{Ok, Err, refl, ap, ◌∙◌}
 use Rattle.execution.proofs.Executions.{refused_short, refused_out, executed, acted_error, acted_good}
 use Rattle.execution.proofs.ReachTests.{answerable_epc}
 use Rattle.execution.specs.Reach.{has_named}
@@ -33,35 +33,35 @@ pub set-requires : goal.set-requires
 set-requires c =
     (answerable_epc _ (not_fails c.if-not-is_answerable.false-raw c.is_answerable.ensures), c.if-output-lt136.false)
 
-pub returns-in-PlainError : goal.returns-in-PlainError
+pub returns-in-Err-Plain : goal.returns-in-Err-Plain
 unfolding has_named answer changed is_error
-returns-in-PlainError c =
+returns-in-Err-Plain c =
     executed _ _ _ _ c.if-output-lt136.false (not_fails c.if-not-is_answerable.false-raw c.is_answerable.ensures)
-    c.act_of-act.ensures c.in-PlainError.is (acted_error _ _ _ _ refl _ _ _ c.plain_error.ensures refl refl)
+    c.act_of.ensures (c.in-Err-Plain.is ∙ ap Err c.in-Err-Plain.field-0-is) (acted_error _ _ _ _ refl _ _ _ c.plain_error.ensures refl refl)
 
-pub returns-in-TagError : goal.returns-in-TagError
+pub returns-in-Err-Tag : goal.returns-in-Err-Tag
 unfolding has_named answer changed is_error
-returns-in-TagError c =
+returns-in-Err-Tag c =
     executed _ _ _ _ c.if-output-lt136.false (not_fails c.if-not-is_answerable.false-raw c.is_answerable.ensures)
-    c.act_of-act.ensures c.in-TagError.is (acted_error _ _ _ _ refl _ _ _ c.tag_error.ensures refl refl)
+    c.act_of.ensures (c.in-Err-Tag.is ∙ ap Err c.in-Err-Tag.field-0-is) (acted_error _ _ _ _ refl _ _ _ c.tag_error.ensures refl refl)
 
-pub returns-in-Notify : goal.returns-in-Notify
+pub returns-in-Ok-Notify : goal.returns-in-Ok-Notify
 unfolding has_named answer changed is_error
-returns-in-Notify c =
+returns-in-Ok-Notify c =
     executed _ _ _ _ c.if-output-lt136.false (not_fails c.if-not-is_answerable.false-raw c.is_answerable.ensures)
-    c.act_of-act.ensures c.in-Notify.is (acted_good _ _ _ _ refl _ _ _ c.notify.ensures refl refl)
+    c.act_of.ensures (c.in-Ok-Notify.is ∙ ap Ok c.in-Ok-Notify.field-0-is) (acted_good _ _ _ _ refl _ _ _ c.notify.ensures refl refl)
 
-pub returns-in-Give : goal.returns-in-Give
-returns-in-Give c =
+pub returns-in-Ok-Give : goal.returns-in-Ok-Give
+returns-in-Ok-Give c =
     executed _ _ _ _ c.if-output-lt136.false (not_fails c.if-not-is_answerable.false-raw c.is_answerable.ensures)
-    c.act_of-act.ensures c.in-Give.is (c.give.ensures _)
+    c.act_of.ensures (c.in-Ok-Give.is ∙ ap Ok c.in-Ok-Give.field-0-is) (c.give.ensures _)
 
-pub returns-in-Store : goal.returns-in-Store
-returns-in-Store c =
+pub returns-in-Ok-Store : goal.returns-in-Ok-Store
+returns-in-Ok-Store c =
     executed _ _ _ _ c.if-output-lt136.false (not_fails c.if-not-is_answerable.false-raw c.is_answerable.ensures)
-    c.act_of-act.ensures c.in-Store.is c.store.ensures
+    c.act_of.ensures (c.in-Ok-Store.is ∙ ap Ok c.in-Ok-Store.field-0-is) c.store.ensures
 
-pub returns-in-Set : goal.returns-in-Set
-returns-in-Set c =
+pub returns-in-Ok-Set : goal.returns-in-Ok-Set
+returns-in-Ok-Set c =
     executed _ _ _ _ c.if-output-lt136.false (not_fails c.if-not-is_answerable.false-raw c.is_answerable.ensures)
-    c.act_of-act.ensures c.in-Set.is (c.set.ensures _)
+    c.act_of.ensures (c.in-Ok-Set.is ∙ ap Ok c.in-Ok-Set.field-0-is) (c.set.ensures _)

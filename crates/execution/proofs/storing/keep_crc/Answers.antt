@@ -14,4 +14,4 @@ pub returns : goal.returns
 unfolding crc_kept with_crc
 returns c =
     c.put_bytes.ensures
-    ∙ simp (c.crc_of_epc-crc.ensures, eq-eqb _ _ c.if-bank-ne1.false, pick_true)
+    ∙ simp (c.from.ensures, c.crc_of_epc-crc.ensures, eq-eqb _ _ c.if-bank-ne1.false, pick_true)

@@ -1,5 +1,5 @@
 -- `store` meets its contract: a Write's data are not there or have no room, or they are stored behind the answer, and the CRC word with them.
-use mathlib.Core.Path.{refl}
+use mathlib.Core.Path.{refl, ◌∙◌}
 use native.Mathlib.Omega.{arith}
 use Rattle.execution.proofs.Acts.{store_copied}
 use Rattle.execution.proofs.Executions.{undone, acted_good}
@@ -21,7 +21,7 @@ returns-then-not-reaches c = undone _ _ _ _ (stored_out _ _ _ (not_holds c.if-no
 pub keep_crc-requires : goal.keep_crc-requires
 unfolding view bank_at
 keep_crc-requires c =
-    omega (arith, word_there _ c.requires.0, c.number_at-word.ensures.value)
+    omega (arith, word_there _ c.requires.0, c.from-word.ensures, c.number_at.ensures)
 
 pub returns : goal.returns
 unfolding byte answer is_error
@@ -29,4 +29,4 @@ returns c =
     let fields = c.if-parameters-lt9.false in
     let there = not_fails c.if-not-reaches.false-raw c.reaches.ensures in
     acted_good _ _ _ _ (stored_there _ _ _ fields there) _ _ _ c.done-length.ensures
-    (store_copied _ _ _ _ _ _ fields (reaches_there _ _ _ there) c.copy.ensures c.number_at-word.ensures.value c.keep_crc.ensures) refl
+    (store_copied _ _ _ _ _ _ fields (reaches_there _ _ _ there) c.copy.ensures (c.from-word.ensures ∙ c.number_at.ensures) c.keep_crc.ensures) refl
