@@ -3,7 +3,6 @@ use Rattle.std.proofs.Common.{◌≡◌, Bool, true, false, Result, Ok, Err, IsE
 use Rattle.std.specs.Bool.{⊤}
 use Rattle.frame.specs.Bytes.{pick}
 use Rattle.tag.specs.Errors.{Verdict}
-use Rattle.tag.specs.declared.commands.Act.{Act}
 use Rattle.tag.specs.declared.errors.PlainError.{PlainError}
 use Rattle.tag.specs.declared.errors.Refusal.{Refusal}
 use Rattle.tag.specs.declared.errors.Refusal.TheVariants.{Plain}

@@ -22,6 +22,10 @@ use Rattle.tag.specs.declared.errors.PlainError.TheVariants.{NotInventoried, Not
 use Rattle.tag.specs.declared.errors.TagError.{TagError}
 use Rattle.tag.specs.declared.errors.TagError.TheVariants.{WrongPassword, ReadOutside, ReadLocked, WriteOutside, WriteLocked, NoUserWords, Permalocked, NoKillPassword}
 
+-- what stands behind the byte of a tag error
+abbrev behind : List ℕ → TagError → List ℕ
+behind image e = tail image
+
 module _ (image : List ℕ) (g : Good (view image)) where
   pc_and_epc_most : length (pc_and_epc image) ≤ 64
   unfolding pc_and_epc
@@ -30,6 +34,9 @@ module _ (image : List ℕ) (g : Good (view image)) where
   tail_most : length (tail image) ≤ 65
   unfolding tail
   tail_most = omega (arith, pc_and_epc_most)
+
+  behind_most : (e : TagError) → length (behind image e) ≤ 65
+  behind_most e = tail_most
 
   done_most : (code : ℕ) → length (frame_of 0x01 code (tail image ++ (0x00 ∷ []))) ≤ 136
   done_most code = omega (arith, length_frame 0x01 code (tail image ++ (0x00 ∷ [])), length-append (tail image) (0x00 ∷ []), tail_most)
@@ -64,7 +71,7 @@ answer_most image p code h =
     let g : Good (view image) = good_facts image h in
     act_cases (λ (verdict : Verdict). length (answer image verdict) ≤ 136)
     (λ e. omega (arith, length_frame 0x01 0xFF (plain_byte e ∷ [])))
-    (λ e. omega (arith, length_frame 0x01 0xFF (tag_byte e ∷ tail image), tail_most image g))
+    (λ e. omega (arith, length_frame 0x01 0xFF (tag_byte e ∷ behind image e), behind_most image g e))
     image p code
     (λ n. notify_most image g)
     (λ n reads. give_most image g (place_of image p) (2 * count_in p) (omega (arith, reads.aim.count_most)))
@@ -79,7 +86,7 @@ unfolding answer is_error
 error_code image p code output =
     act_cases (λ (verdict : Verdict). eqb (byte (written (answer image verdict) output) 2) 0xFF ≡ is_error verdict)
     (λ e. rw (code_frame 0x01 0xFF (plain_byte e ∷ []) output))
-    (λ e. rw (code_frame 0x01 0xFF (tag_byte e ∷ tail image) output))
+    (λ e. rw (code_frame 0x01 0xFF (tag_byte e ∷ behind image e) output))
     image p code
     (λ n. rw (code_frame 0x02 0x22 (rssi image ∷ (pc_and_epc image ++ part image (view image).epc.offset 2)) output))
     (λ n reads. rw (code_frame 0x01 0x39 (tail image ++ part image (place_of image p) (2 * count_in p)) output))
@@ -114,7 +121,7 @@ unfolding answer is_error
 error_named image p code output =
     act_cases (λ (verdict : Verdict). is_error verdict ≡ true → 0 < byte (written (answer image verdict) output) 5)
     (λ e error. omega (arith, first_frame 0x01 0xFF (plain_byte e) [] output, plain_some e))
-    (λ e error. omega (arith, first_frame 0x01 0xFF (tag_byte e) (tail image) output, tag_some e))
+    (λ e error. omega (arith, first_frame 0x01 0xFF (tag_byte e) (behind image e) output, tag_some e))
     image p code
     (λ n error. absurd (true≢false (sym error)))
     (λ n reads error. absurd (true≢false (sym error)))

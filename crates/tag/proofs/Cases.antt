@@ -1,13 +1,12 @@
 -- Every verdict on a command, by cases: a property that all refusals have, and each act under what its checks say, is one of `act_of`.
-use Prim.Native.Nat.{ℕ, ◌+◌, ◌*◌, ◌/◌, ◌%◌, ◌≤◌, ◌<◌}
+use Prim.Native.Nat.{ℕ, ◌+◌, ◌*◌, ◌/◌, ◌%◌, ◌≤◌}
 use borrow.Author.Tests.{eqb-true, leb-true, ltb-false, not-false}
 use lib.Dec.{eqb, leb, ltb}
 use lib.ListN.{length}
 use mathlib.Core.Bool.{true, false, not, ◌&&◌}
 use mathlib.Core.List.{List}
 use mathlib.Core.Path.{◌≡◌, refl}
-use Rattle.std.specs.Prelude.{Result, Ok, Err}
-use native.Mathlib.Omega.{arith}
+use Rattle.std.specs.Prelude.{Ok, Err}
 use Rattle.frame.proofs.Picks.{by_test}
 use Rattle.frame.proofs.Tests.{and_left, and_right}
 use Rattle.tag.specs.Commands.{password_in, bank_in, pointer_in, count_in, data_in, ld_in, aim_right, parse_inventory, parse_read, parse_write, parse_lock, parse_kill, parse, gone, if_present, admitted, of_tag, outside, inventory_verdict, read_act, read_verdict, names_crc, length_broken, write_act, write_verdict, lock_act, lock_verdict, kill_act, kill_verdict, verdict, act_of}

@@ -22,13 +22,13 @@ use Rattle.tag.specs.Claims.{InventoryRows, ReadRows, WriteRows, LockRows, KillR
 use Rattle.tag.specs.Commands.{names_crc, length_broken, password_in, bank_in, pointer_in, count_in, data_in, ld_in, aim_right, parse_inventory, parse_read, parse_write, parse_lock, parse_kill, parse, gone, if_present, admitted, of_tag, outside, inventory_verdict, read_act, read_verdict, write_act, write_verdict, lock_act, lock_verdict, kill_act, kill_verdict, verdict, act_of}
 use Rattle.image.specs.Image.{bank_at, view, rssi, bank_of, word_at, epc_length, kill_password, access_password, pc_and_epc, crc_word, with_crc}
 use Rattle.tag.specs.Locks.{may_read, may_write, pairs, bits_of, standing, kill_standing_of, kill_standing, new_pairs, refuses_lock}
-use Rattle.tag.specs.Errors.{plain_byte, tag_byte, Verdict}
+use Rattle.tag.specs.Errors.{plain_byte, tag_byte}
 use Rattle.tag.specs.declared.commands.Act.{Act}
 use Rattle.tag.specs.declared.commands.Act.TheVariants.{Notify, Give, Store, Set}
-use Rattle.tag.specs.declared.errors.PlainError.TheVariants.{NotInventoried, NotRead, NotWritten, NotLocked, NotKilled, NoCommand}
+use Rattle.tag.specs.declared.errors.PlainError.TheVariants.{NotInventoried, NotRead, NotWritten, NotKilled, NoCommand}
 use Rattle.tag.specs.declared.errors.Refusal.TheVariants.{Plain, Tag}
 use Rattle.tag.specs.declared.errors.TagError.{TagError}
-use Rattle.tag.specs.declared.errors.TagError.TheVariants.{WrongPassword, ReadOutside, ReadLocked, WriteOutside, WriteLocked, NoUserWords, Permalocked, NoKillPassword}
+use Rattle.tag.specs.declared.errors.TagError.TheVariants.{ReadOutside, ReadLocked, WriteOutside, WriteLocked, NoKillPassword}
 use Rattle.tag.specs.declared.commands.Parsed.{Parsed}
 use Rattle.image.specs.declared.header.View.{View}
 use Rattle.tag.specs.declared.locks.Standing.{Standing}

@@ -4,9 +4,16 @@ use mathlib.Core.Path.{◌≡◌}
 use lib.Dec.{eqb}
 use native.Mathlib.Omega.{arith}
 use Rattle.frame.proofs.Picks.{by_test}
-use Rattle.tag.specs.Bounds.{Paired}
 use Rattle.tag.specs.Locks.{pairs, bits_of, permalocked, new_bit, masked_pair, new_pair, new_pairs}
 use Rattle.tag.specs.declared.locks.Pairs.{Pairs}
+
+-- each pair has two bits
+pub record Paired (p : Pairs) : Type 0 where
+  pub kill_pair : p.kill < 4
+  pub access_pair : p.access < 4
+  pub epc_pair : p.epc < 4
+  pub tid_pair : p.tid < 4
+  pub user_pair : p.user < 4
 
 pub pairs_small : (bits : ℕ) → Paired (pairs bits)
 unfolding pairs

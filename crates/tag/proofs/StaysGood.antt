@@ -24,7 +24,7 @@ use Rattle.tag.proofs.LockPairs.{pairs_small, new_pairs_small, bits_small}
 use Rattle.tag.specs.Answers.{crc_kept, changed}
 use Rattle.tag.specs.Commands.{bank_in, pointer_in, count_in, data_in, ld_in, length_broken, act_of}
 use Rattle.image.specs.Image.{good, view, bank_at, bank_of, word_at, epc_length}
-use Rattle.tag.specs.Bounds.{Paired}
+use Rattle.tag.proofs.LockPairs.{Paired}
 use Rattle.tag.specs.Locks.{pairs, new_pairs}
 use Rattle.tag.specs.Errors.{Verdict}
 use Rattle.image.specs.declared.header.Bank.{Bank}

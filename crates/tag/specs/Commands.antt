@@ -11,7 +11,6 @@ use Rattle.tag.specs.declared.commands.Parsed.{Parsed}
 use Rattle.tag.specs.declared.commands.Parsed.TheVariants.{Malformed, Inventory, Read, Write, Lock, Kill}
 use Rattle.tag.specs.declared.errors.PlainError.{PlainError}
 use Rattle.tag.specs.declared.errors.PlainError.TheVariants.{NotInventoried, NotRead, NotWritten, NotLocked, NotKilled, NoCommand}
-use Rattle.tag.specs.declared.errors.Refusal.{Refusal}
 use Rattle.tag.specs.declared.errors.Refusal.TheVariants.{Plain, Tag}
 use Rattle.tag.specs.declared.errors.TagError.{TagError}
 use Rattle.tag.specs.declared.errors.TagError.TheVariants.{WrongPassword, ReadOutside, ReadLocked, WriteOutside, WriteLocked, NoUserWords, Permalocked, NoKillPassword}

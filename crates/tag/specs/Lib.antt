@@ -1,5 +1,4 @@
 pub mod Answers
-pub mod Bounds
 pub mod Claims
 pub mod Commands
 pub mod Errors

@@ -1,16 +1,15 @@
 // Lock pairs, and how a tag stands to a password (document 01, "Lock bits").
 ghost use Rattle.std.specs.Prelude.{◌≡◌};
-ghost use Rattle.tag.specs.Bounds.{Paired};
 ghost use Rattle.tag.specs.Locks.{pairs, standing_of, kill_standing_of, is_secured};
 
 // The lock bits, a pair for each region.
 #[derive(Clone, Copy)]
 pub struct Pairs {
-    pub kill: usize,
-    pub access: usize,
-    pub epc: usize,
-    pub tid: usize,
-    pub user: usize,
+    pub kill: u8,
+    pub access: u8,
+    pub epc: u8,
+    pub tid: u8,
+    pub user: u8,
 }
 
 // How a tag stands to the access password that a command carries.
@@ -31,15 +30,14 @@ pub enum KillStanding {
 
 #[tactic(auto, unfolding(crate::specs::Locks::pairs))]
 pub(crate) fn pairs_of(bits: usize) -> Pairs
-    ensures value { result ≡ pairs bits }
-    ensures paired { Paired result }
+    ensures { result ≡ pairs bits }
 {
     Pairs {
-        kill: bits / 256 % 4,
-        access: bits / 64 % 4,
-        epc: bits / 16 % 4,
-        tid: bits / 4 % 4,
-        user: bits % 4,
+        kill: (bits / 256 % 4) as u8,
+        access: (bits / 64 % 4) as u8,
+        epc: (bits / 16 % 4) as u8,
+        tid: (bits / 4 % 4) as u8,
+        user: (bits % 4) as u8,
     }
 }
 

@@ -1,42 +1,39 @@
 // What a Lock makes of the lock pairs (document 01, "The commands", 0x82, with request P3).
-ghost use Rattle.std.specs.Prelude.{◌≡◌, ◌<◌};
-ghost use Rattle.tag.specs.Bounds.{Paired};
+ghost use Rattle.std.specs.Prelude.{◌≡◌, ◌≤◌, max};
 ghost use Rattle.tag.specs.Locks.{bits_of, new_bit, masked_pair, new_pair, new_pairs, refuses_pair, refuses_lock};
 
 use crate::locks::Pairs;
 
 #[tactic(auto, unfolding(crate::specs::Locks::bits_of))]
 pub(crate) fn bits_of(p: Pairs) -> usize
-    requires { Paired p }
     ensures { result ≡ bits_of p }
 {
-    p.kill * 256 + p.access * 64 + p.epc * 16 + p.tid * 4 + p.user
+    usize::from(p.kill) * 256
+        + usize::from(p.access) * 64
+        + usize::from(p.epc) * 16
+        + usize::from(p.tid) * 4
+        + usize::from(p.user)
 }
 
 #[tactic(auto, using(crate::proofs::Tests::tests), unfolding(crate::specs::Locks::new_bit, frame::specs::Bytes::pick))]
-fn new_bit(mask: usize, action: usize, old: usize) -> usize
-    requires { (action < 2) × (old < 2) }
+fn new_bit(mask: u8, action: u8, old: u8) -> u8
     ensures value { result ≡ new_bit mask action old }
-    ensures upper_bound { result < 2 }
+    ensures upper_bound { result ≤ max action old }
 {
     if mask == 1 { action } else { old }
 }
 
 #[tactic(auto, unfolding(crate::specs::Locks::masked_pair))]
-fn masked_pair(mask: usize, action: usize, old: usize) -> usize
-    requires { (action < 4) × (old < 4) }
-    ensures value { result ≡ masked_pair mask action old }
-    ensures upper_bound { result < 4 }
+fn masked_pair(mask: u8, action: u8, old: u8) -> u8
+    ensures { result ≡ masked_pair mask action old }
 {
     new_bit(mask / 2, action / 2, old / 2) * 2 + new_bit(mask % 2, action % 2, old % 2)
 }
 
 // Where no pair refuses, one whose permalock bit is set stays as it is, whatever the Lock asks of it.
 #[tactic(auto, using(crate::proofs::Tests::tests), unfolding(crate::specs::Locks::new_pair, crate::specs::Locks::permalocked, frame::specs::Bytes::pick))]
-fn new_pair(mask: usize, action: usize, old: usize) -> usize
-    requires { (action < 4) × (old < 4) }
-    ensures value { result ≡ new_pair mask action old }
-    ensures upper_bound { result < 4 }
+fn new_pair(mask: u8, action: u8, old: u8) -> u8
+    ensures { result ≡ new_pair mask action old }
 {
     if old % 2 == 1 {
         old
@@ -47,9 +44,7 @@ fn new_pair(mask: usize, action: usize, old: usize) -> usize
 
 #[tactic(auto, unfolding(crate::specs::Locks::new_pairs))]
 pub(crate) fn new_pairs(mask: Pairs, action: Pairs, old: Pairs) -> Pairs
-    requires { Paired action × Paired old }
-    ensures value { result ≡ new_pairs mask action old }
-    ensures paired { Paired result }
+    ensures { result ≡ new_pairs mask action old }
 {
     Pairs {
         kill: new_pair(mask.kill, action.kill, old.kill),
@@ -62,7 +57,7 @@ pub(crate) fn new_pairs(mask: Pairs, action: Pairs, old: Pairs) -> Pairs
 
 // A pair whose permalock bit is set refuses to have that bit cleared, and its password bit changed alone.
 #[tactic(auto, using(crate::proofs::Tests::tests), unfolding(crate::specs::Locks::refuses_pair, crate::specs::Locks::permalocked, frame::specs::Bytes::pick))]
-fn refuses_pair(mask: usize, action: usize, old: usize) -> bool
+fn refuses_pair(mask: u8, action: u8, old: u8) -> bool
     ensures { result ≡ refuses_pair mask action old }
 {
     let is_changing = if mask % 2 == 1 {

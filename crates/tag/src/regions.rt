@@ -7,7 +7,7 @@ use image::header::View;
 
 // The row of the table for a pair.
 #[tactic(auto, using(crate::proofs::Tests::tests), unfolding(crate::specs::Locks::allows, frame::specs::Bytes::pick))]
-fn allows_at(pair: usize, s: Standing) -> bool
+fn allows_at(pair: u8, s: Standing) -> bool
     ensures { result ≡ allows pair s }
 {
     match pair {
@@ -27,7 +27,7 @@ fn touches_from(pointer: usize, count: usize, first: usize) -> bool
 }
 
 // One password region, of which `first` is the first word, lets the command through or is not touched.
-fn may_touch(pair: usize, s: Standing, pointer: usize, count: usize, first: usize) -> bool
+fn may_touch(pair: u8, s: Standing, pointer: usize, count: usize, first: usize) -> bool
     requires { first ≤ 2 }
     ensures { result ≡ (not (touches pointer count first) || allows pair s) }
 {

@@ -1,5 +1,5 @@
 -- `verdict` meets its contract, command by command.
-use Rattle.std.proofs.Common.{refl, ap, sym, ◌∙◌}
+use Rattle.std.proofs.Common.{ap, sym, ◌∙◌}
 use Rattle.tag.proofs.Admissions.{handed_on, absent, present, refused, admitted}
 use Rattle.tag.specs.Commands.{if_present, admitted as admitted_of, of_tag, inventory_verdict, read_verdict, write_verdict, lock_verdict, kill_act, kill_verdict, verdict}
 use Rattle.tag.proofs.acts.verdict.Goals as goal
