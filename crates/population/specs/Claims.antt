@@ -14,7 +14,6 @@ use Rattle.population.specs.Lowest.{lowest, no_tag, tag_at}
 use Rattle.population.specs.Matching.{matches}
 use Rattle.population.specs.Places.{good_population}
 use Rattle.population.specs.Selections.{taken, good_selection}
-use Rattle.std.specs.Prelude.{None, Some}
 use Rattle.population.specs.declared.places.Place.{Place}
 
 -- ---- "A crate holds up to 16 tags, each with its place in one lent memory and its own image"

@@ -1,5 +1,4 @@
 -- Each file is read behind the one before it, and has room there.
-use Rattle.std.proofs.Common.{◌-◌}
 use Rattle.files.proofs.Reading.{FilesRead}
 use Rattle.files.proofs.tags.read_into.Given as goal
 
