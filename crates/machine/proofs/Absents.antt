@@ -19,7 +19,7 @@ use Rattle.tag.specs.declared.commands.Parsed.{Parsed}
 use Rattle.tag.specs.declared.commands.Parsed.TheVariants.{Malformed, Inventory, Read, Write, Lock, Kill}
 
 -- the error of a command for which no tag is there
-without : Parsed → PlainError
+unfoldable pub without : Parsed → PlainError
 without Malformed = NoCommand
 without Inventory = NotInventoried
 without (Read password bank pointer count) = NotRead
@@ -27,7 +27,7 @@ without (Write password bank pointer count) = NotWritten
 without (Lock password mask action) = NotLocked
 without (Kill password) = NotKilled
 
-byte_without : (m : Parsed) → plain_byte (without m) ≡ error_without m
+pub byte_without : (m : Parsed) → plain_byte (without m) ≡ error_without m
 unfolding without plain_byte error_without
 byte_without Malformed = refl
 byte_without Inventory = refl

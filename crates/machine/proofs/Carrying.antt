@@ -10,7 +10,7 @@ use mathlib.Core.Path.{◌≡◌, refl, ap, ap₂, sym, subst, ◌∙◌}
 use native.Mathlib.Omega.{arith}
 use Rattle.reader.specs.Outcomes.{number_of}
 use Rattle.reader.specs.Readers.{reader_of}
-use Rattle.machine.proofs.Absents.{act_without}
+use Rattle.machine.proofs.Absents.{byte_without, act_without}
 use Rattle.machine.proofs.Lowests.{TheLowest, lowest_inside}
 use Rattle.machine.proofs.Secrets.{code_there, parameters_there}
 use Rattle.machine.proofs.Steps.{Accepts, command_at, error_at, found_tag, step_cases}
@@ -34,7 +34,7 @@ use Rattle.population.specs.declared.places.Place.{Place}
 use Rattle.reader.specs.Tallies.{with_good, with_error}
 use Rattle.tag.specs.Answers.{answer, changed, is_error}
 use Rattle.tag.specs.Claims.{comes_to, framed, outcome}
-use Rattle.tag.specs.Commands.{act_of}
+use Rattle.tag.specs.Commands.{parse, act_of}
 use Rattle.tag.specs.Errors.{Verdict}
 
 -- only an inventory leaves tags to hand out
@@ -93,6 +93,7 @@ module _ (c : Call) (s : State) (pl : ℕ) (a : Accepts (input_of c) s pl) where
       record {
         as_an_absent_tag = λ image away.
             take_written (plain_error (error_at (input_of c) s pl)) s.output
+            ∙ ap plain_error (sym (byte_without (parse code given)))
             ∙ ap (answer image) (sym (act_without image given away code))
             ∙ ap₂ (λ (k : ℕ) (l : List ℕ). (comes_to image k l).0) code_is given_is;
         memory_stays = refl;

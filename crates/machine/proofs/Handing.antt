@@ -1,4 +1,5 @@
 -- Handing out: the lowest tag from the next number on, and over a list of calls each of them once, in rising number.
+use Rattle.std.specs.Prelude.{Ok}
 use Rattle.population.proofs.Firsts.{same_tags}
 use Prim.Native.Nat.{ℕ, zero, suc, ◌+◌, ◌-◌, ◌≤◌, ◌<◌}
 use borrow.Author.Tests.{ne_eqb, eqb-true, eqb-false}
@@ -50,7 +51,7 @@ module _ (input : List ℕ) (s : State) (t : Tested input s) (n : ℕ) (p : Plac
   pub hands_out : HandsOut s n p (aimed s (hand_out_at s n p) [])
   unfolding aimed acted act_for image_for counted next_after is_error waiting outcome image_at
   hands_out =
-      let notifies : act_for s (hand_out_at s n p) [] ≡ Notify = hand_out_notifies input s t n p tag in
+      let notifies : act_for s (hand_out_at s n p) [] ≡ Ok Notify = hand_out_notifies input s t n p tag in
       record {
         lowest_from_next = ((lowest_tag s.memory s.tags s.places s.selection s.next t.population_good).0 n p).0 e;
         notification = take_written (answer (image_at s.memory p) (act_for s (hand_out_at s n p) [])) s.output;
@@ -196,7 +197,7 @@ exactly_once (c ∷ calls) s g h =
 
 -- an inventory at a present tag
 module _ (s : State) (a : Aimed) (p : List ℕ) (code : a.code ≡ 0x22) (empty : p ≡ []) (present : byte (image_at s.memory a.place) 22 ≡ 0) where
-  notifies : act_for s a p ≡ Notify
+  notifies : act_for s a p ≡ Ok Notify
   unfolding act_for image_for
   notifies = ap₂ (λ (k : ℕ) (l : List ℕ). act_of (image_at s.memory a.place) k l) code empty ∙ present_notifies (image_at s.memory a.place) present
 

@@ -111,7 +111,7 @@ selected_present memory selection places n h =
 
 module _ (input : List ℕ) (s : State) (t : Tested input s) (n : ℕ) (p : Place)
     (tag : TheLowest s.memory s.tags s.places s.selection s.next n p) where
-  pub hand_out_notifies : act_for s (hand_out_at s n p) [] ≡ Notify
+  pub hand_out_notifies : act_for s (hand_out_at s n p) [] ≡ Ok Notify
   unfolding act_for image_for
   hand_out_notifies =
       present_notifies (image_at s.memory p)
