@@ -2,6 +2,7 @@ pub mod Claimed
 pub mod CountPuts
 pub mod Decimals
 pub mod Laying
+pub mod Lengths
 pub mod Overlays
 pub mod Puts
 pub mod Told

@@ -1,22 +1,23 @@
 -- Pieces that a writer puts one behind the other are put as one piece where all of them have room.
-use Prim.Native.Nat.{ℕ, ◌+◌, ◌≤◌, ◌<◌}
+use Prim.Native.Nat.{ℕ, ◌+◌, ◌-◌, ◌≤◌, ◌<◌}
 use borrow.Author.Tests.{lt-leb}
 use lib.ListN.{length, length-append}
 use lib.Seq.{sets, length-sets}
-use mathlib.Core.Bool.{Bool, true, false}
-use mathlib.Core.List.{List, [], ◌∷◌, ◌++◌}
+use mathlib.Core.Bool.{Bool, false}
+use mathlib.Core.List.{List, [], ◌++◌}
 use mathlib.Core.Path.{◌≡◌, refl, ap, subst, ◌∙◌}
 use native.Mathlib.Omega.{arith}
 use Rattle.frame.proofs.Copies.{there_reaches}
 use Rattle.frame.proofs.Picks.{by_test}
 use Rattle.frame.specs.Bytes.{pick, reaches}
 use Rattle.frame.specs.Putting.{Put}
-use Rattle.text.proofs.Decimals.{decimal_64}
+use Rattle.text.proofs.Decimals.{length_decimal, decimal_64}
 use Rattle.text.proofs.Laying.{laid_put, put_laid, none_laid, within_put, put_within, none_within}
+use Rattle.text.proofs.Lengths.{hex_short}
 use Rattle.text.proofs.Puts.{put_join}
 use Rattle.text.specs.Counts.{count_part}
-use Rattle.text.specs.Digits.{hex_byte, decimal}
-use Rattle.text.specs.Writing.{Lays, LaysWithin, Puts}
+use Rattle.text.specs.Digits.{hex_byte, width, decimal}
+use Rattle.text.specs.Writing.{Lays, LaysWithin, Puts, PutsRight}
 use Rattle.text.specs.declared.writer.Writer.{Writer}
 
 short_of : (bytes : List ℕ) (at n : ℕ) → length bytes < at + n → reaches bytes at n ≡ false
@@ -120,6 +121,11 @@ put_behind {m = m} {n = n} {a = a} {b = b} {before = before} {middle = middle} {
 pub word_put : {word : List ℕ} {before after : Writer} → Lays word before after → Puts (length word) word before after
 word_put = short_put (omega arith)
 
+-- a text that a call gave
+pub text_put : {piece text : List ℕ} {before after : Writer} (most : ℕ) → piece ≡ text → length text ≤ most → Lays piece before after
+    → Puts most text before after
+text_put {before = before} {after = after} most e few lays = short_put few (subst (λ (l : List ℕ). Lays l before after) e lays)
+
 pub count_put : (word : List ℕ) {n m : ℕ} {before after : Writer} → n ≡ m → LaysWithin (length word + 20) (count_part word n) before after
     → Puts (length word + 20) (count_part word m) before after
 count_put word e lays = same_piece (ap (count_part word) e) (within_puts lays)
@@ -128,5 +134,23 @@ pub decimal_put : {n : ℕ} {before after : Writer} → n < 18446744073709551616
 decimal_put {n = n} small = short_put (decimal_64 n small)
 
 pub hex_put : (b : ℕ) {before after : Writer} → Lays (hex_byte b) before after → Puts 2 (hex_byte b) before after
-unfolding hex_byte
-hex_put b = short_put (omega arith)
+hex_put b = short_put (hex_short b)
+
+-- ---- a number at the right of its columns
+
+pub right_put : (columns n w free : ℕ) (before : Writer) {after : Writer} → w ≡ width n → free ≡ columns - w
+    → Lays (decimal n) (record before { at = before.at + free }) after → PutsRight columns n before after
+right_put columns n w free before {after = after} wide left lays =
+    let digits : length (decimal n) ≡ w = length_decimal n w wide in
+    let there : free ≡ columns - length (decimal n) = omega arith in
+    record {
+      same_reference = lays.same_reference;
+      same_length = pick_length _ (decimal n) (before.at + free) before.buffer.now after.buffer.now lays.laid.bytes_are;
+      put = λ room long.
+          subst (λ (k : ℕ). Put (decimal n) (before.at + k) before.buffer.now after.buffer.now after.at) there
+          (laid_put (decimal n) (before.at + free) before.buffer.now after.buffer.now after.at (omega arith) lays.laid);
+    }
+
+pub right_nothing : (columns n : ℕ) (writer : Writer) → length writer.buffer.now < writer.at + columns → PutsRight columns n writer writer
+right_nothing columns n writer short =
+    record { same_reference = refl; same_length = refl; put = λ room long. absurd (omega arith) }

@@ -1,9 +1,9 @@
 // Numbers as text.
 ghost use Rattle.std.specs.Prelude.{◌≡◌, ◌≤◌, ◌<◌};
 ghost use Rattle.text.specs.Digits.{hex_digit, hex_byte, width as width_of, decimal};
-ghost use Rattle.text.specs.Writing.{Lays};
+ghost use Rattle.text.specs.Writing.{Lays, PutsRight};
 
-use crate::writer::Writer;
+use crate::writer::{Writer, missing};
 
 fn hex_digit(n: u8) -> u8
     requires { n < 16 }
@@ -41,6 +41,16 @@ impl Writer<'_> {
                 left /= 10;
             }
             self.at = at + w;
+        }
+    }
+
+    // A number at the right of so many columns, the first of which is at the writer's place.
+    pub fn put_right(&mut self, columns: usize, n: u64)
+        ensures { PutsRight columns n self.old self.new }
+    {
+        if self.has_room(columns) {
+            self.at += missing(columns, width(n));
+            self.put_decimal(n);
         }
     }
 }

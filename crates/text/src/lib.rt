@@ -4,4 +4,5 @@
 
 pub mod counts;
 pub mod digits;
+pub mod words;
 pub mod writer;

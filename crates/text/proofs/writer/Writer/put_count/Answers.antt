@@ -1,5 +1,4 @@
 -- `put_count` meets its contract: the word, then the number.
-use Prim.Native.Nat.{◌≤◌}
 use native.Mathlib.Omega.{arith}
 use Rattle.std.proofs.Common.{rules}
 use Rattle.text.proofs.CountPuts.{count_short}

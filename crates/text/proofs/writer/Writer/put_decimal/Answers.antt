@@ -2,12 +2,12 @@
 use Prim.Native.Nat.{ℕ, ◌+◌, ◌≤◌}
 use lib.ListN.{length, length-set}
 use mathlib.Core.List.{[]}
-use mathlib.Core.Path.{◌≡◌, refl, ap, ◌∙◌}
+use mathlib.Core.Path.{◌≡◌, ap, ◌∙◌}
 use native.Mathlib.Omega.{arith}
 use Rattle.std.proofs.Common.{rules}
 use Rattle.text.proofs.Decimals.{digit_put, digits_none, length_decimal, all_digits}
 use Rattle.text.proofs.Writing.{lays_put, lays_nothing}
-use Rattle.text.specs.Digits.{digits, decimal}
+use Rattle.text.specs.Digits.{digits}
 use Rattle.text.proofs.writer.Writer.put_decimal.Goals as goal
 
 pub loop-i-preserved : goal.loop-i-preserved

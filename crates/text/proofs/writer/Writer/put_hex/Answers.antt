@@ -1,6 +1,4 @@
 -- `put_hex` meets its contract: the two digits are a text.
-use mathlib.Core.Path.{◌≡◌, refl}
-use mathlib.Core.List.{List, [], ◌∷◌}
 use Rattle.text.specs.Digits.{hex_byte}
 use Rattle.text.proofs.writer.Writer.put_hex.Goals as goal
 
