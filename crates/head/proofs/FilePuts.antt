@@ -15,17 +15,12 @@ use Rattle.text.proofs.Overlays.{overlay}
 use Rattle.head.specs.Files.{tag_name, file_text, tag_lines}
 use Rattle.text.proofs.Puts.{put_join}
 use Rattle.text.proofs.Writing.{put_behind, same_piece, more_room}
-use Rattle.text.proofs.Lengths.{length_spaces}
+use Rattle.text.proofs.Lengths.{length_spaces, either_short}
 use Rattle.text.specs.Digits.{decimal}
 use Rattle.text.specs.Laying.{spaces}
 use Rattle.text.specs.Words.{ascii}
 use Rattle.text.specs.Writing.{Puts, PutsRight}
 use Rattle.text.specs.declared.writer.Writer.{Writer}
-
--- ---- a word for one, and one for any other number
-
-pub either_short : (n most : ℕ) (one more : List ℕ) → length one ≤ most → length more ≤ most → length (pick (eqb n 1) one more) ≤ most
-either_short n most one more h k = by_test (λ (l : List ℕ). length l ≤ most) (eqb n 1) (λ _. h) (λ _. k)
 
 -- ---- a file
 

@@ -26,6 +26,7 @@ pub record Puts (most : ℕ) (piece : List ℕ) (before after : Writer) : Type 0
 -- The buffer holds these bytes, and the writer may stand anywhere: what a function promises that writes over rows that stand there already.
 pub record Holds (bytes : List ℕ) (before after : Writer) : Type 0 where
   pub same_reference : after.buffer.ghost_name ≡ before.buffer.ghost_name
+  pub same_length : length after.buffer.now ≡ length before.buffer.now
   pub bytes_are : after.buffer.now ≡ bytes
 
 -- a number ends with the last of so many columns, or is longer than they are and begins with the first; what lies before it stays

@@ -1,7 +1,7 @@
 -- `put_commands` meets its contract: the number, and the word for it.
 use native.Mathlib.Omega.{arith}
-use Rattle.head.proofs.FilePuts.{either_short}
 use Rattle.head.specs.Commands.{commands_text}
+use Rattle.text.proofs.Lengths.{either_short}
 use Rattle.text.proofs.Writing.{decimal_put, word_put, put_behind, text_put}
 use Rattle.head.proofs.commands.put_commands.Goals as goal
 

@@ -1,8 +1,8 @@
 -- `put_file` meets its contract: the name and the length over spaces, and the unit.
 use native.Mathlib.Omega.{arith}
-use Rattle.head.proofs.FilePuts.{either_short, file_put}
+use Rattle.head.proofs.FilePuts.{file_put}
 use Rattle.text.proofs.Decimals.{decimal_64}
-use Rattle.text.proofs.Lengths.{length_spaces}
+use Rattle.text.proofs.Lengths.{length_spaces, either_short}
 use Rattle.text.proofs.Writing.{short_put, text_put}
 use Rattle.head.proofs.files.put_file.Goals as goal
 
