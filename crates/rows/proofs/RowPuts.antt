@@ -28,7 +28,7 @@ standing writer place = record writer { at = place }
 numbers : (n : ℕ) {before after : Writer} → before.at + 4 ≤ length before.buffer.now → before.at + length (decimal n) ≤ length before.buffer.now
     → PutsRight 4 n before after → after.buffer.now ≡ sets before.buffer.now (before.at + number_place n) (decimal n)
 unfolding number_place
-numbers n room long puts = (puts.put room long).output_is
+numbers n room long puts = (puts.put (omega arith) long).output_is
 
 pub error_row_put : (n first code error : ℕ) (parsed : Parsed) {w0 w1 w2 w3 w4 w5 : Writer} → n < 18446744073709551616 → first < 18446744073709551616
     → Puts 100 boxed_row w0 w1 → PutsRight 4 n (standing w1 w0.at) w2 → Puts 20 (decimal first) (standing w2 (w0.at + 7)) w3
