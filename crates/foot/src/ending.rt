@@ -3,7 +3,7 @@ ghost use Rattle.foot.specs.Foot.{failures_line, signature_lines, waiting_rows, 
 ghost use Rattle.foot.specs.Ending.{Ends};
 ghost use Rattle.text.specs.Writing.{Puts};
 
-use reader::outcome::{Outcome, number_of};
+use reader::outcome::Outcome;
 use reader::state::Reader;
 use reader::tally::Tally;
 use rows::row::{dropped_in, put_waiting};
@@ -59,7 +59,7 @@ fn put_end_text(writer: &mut Writer, input: &[u8], reader: Reader, items: usize,
         | Outcome::BadImage
         | Outcome::ShortOutput
         | Outcome::FullTally
-        | Outcome::FullList => writer.put_refused(number_of(outcome)),
+        | Outcome::FullList => writer.put_refused(u64::from(outcome)),
     }
 }
 

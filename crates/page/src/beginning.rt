@@ -5,8 +5,8 @@ ghost use Rattle.page.specs.Page.{run_lines, beginning, has_rows};
 ghost use Rattle.page.specs.Beginning.{Begins};
 
 use head::writing::write_head;
-use population::places::{Place, is_good_population};
-use reader::outcome::{Outcome, number_of};
+use population::places::{Place, Population};
+use reader::outcome::Outcome;
 use report::limits::{judge, write_notice};
 use text::writer::Writer;
 
@@ -32,9 +32,10 @@ fn begin_run(
         (good_population memory.now (length sizes.now) places)
         buffer.old buffer.new result }
 {
-    if !is_good_population(memory, sizes.len(), places) {
+    let tags = sizes.len();
+    if !(Population { places, tags }).is_good(memory) {
         let mut writer = Writer { buffer, at: 0 };
-        writer.put_refused(number_of(Outcome::BadImage));
+        writer.put_refused(u64::from(Outcome::BadImage));
         let used = writer.at;
         return Begun { used, rows: false };
     }

@@ -15,4 +15,4 @@ returns-in-AtEnd c = same_piece (whole_end _ _ _ c.in-AtEnd.is) c.put_foot.ensur
 pub returns-in-PastEnd : goal.returns-in-PastEnd
 returns-in-PastEnd c =
     more_room {most = 29} 516 (omega arith)
-    (same_piece (ap refused_line c.number_of.ensures ∙ refused_end _ _ _ c.in-PastEnd.is) (within_puts c.put_refused.ensures))
+    (same_piece (ap refused_line c.from.ensures ∙ refused_end _ _ _ c.in-PastEnd.is) (within_puts c.put_refused.ensures))

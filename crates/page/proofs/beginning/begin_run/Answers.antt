@@ -4,12 +4,12 @@ use Rattle.reader.specs.Outcomes.{number_of}
 use Rattle.std.proofs.Common.{rules}
 use Rattle.page.proofs.beginning.begin_run.Goals as goal
 
-pub returns-then-not-is_good_population : goal.returns-then-not-is_good_population
+pub returns-then-not-is_good : goal.returns-then-not-is_good
 unfolding number_of
-returns-then-not-is_good_population c =
-    refused_begins _ c.requires _ _ _ _ _ _ _ _ c.is_good_population.ensures _ _ c.if-not-is_good_population.true-raw c.number_of.ensures (search rules)
+returns-then-not-is_good c =
+    refused_begins _ c.requires _ _ _ _ _ _ _ _ c.is_good.ensures _ _ c.if-not-is_good.true-raw c.from.ensures (search rules)
     c.put_refused.ensures.laid
 
 pub returns : goal.returns
 returns c =
-    head_begins _ c.requires _ _ _ _ _ _ _ _ c.is_good_population.ensures c.if-not-is_good_population.false-raw c.write_head-used.ensures
+    head_begins _ c.requires _ _ _ _ _ _ _ _ c.is_good.ensures c.if-not-is_good.false-raw c.write_head-used.ensures
