@@ -56,6 +56,9 @@ fn is_good_crc(image: &[u8], v: View) -> bool
 pub fn is_good(image: &[u8]) -> bool
     ensures { result ≡ good image.now }
 {
+    if image.len() < 24 {
+        return false;
+    }
     let v = view_of(image);
     is_good_header(v) && is_good_banks(v) && is_good_tag(v) && is_good_crc(image, v)
 }
