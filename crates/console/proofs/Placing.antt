@@ -1,6 +1,6 @@
 -- The places of tags that lie one behind the other, as a loop comes upon them.
-use Prim.Native.Nat.{ℕ, suc, ◌+◌, ◌*◌, ◌≤◌, ◌<◌}
-use borrow.Author.Tests.{ltb-true, ltb-false, lt-ltb, le-ltb}
+use Prim.Native.Nat.{ℕ, suc, ◌+◌, ◌*◌, ◌≤◌, ◌<◌, min}
+use borrow.Author.Tests.{ltb-true, ltb-false}
 use lib.Dec.{ltb}
 use lib.ListN.{length, take, get_or, set, replicate}
 use mathlib.Core.Bool.{Bool, true, false}
@@ -8,6 +8,7 @@ use mathlib.Core.List.{List}
 use mathlib.Core.Path.{◌≡◌, refl, ap, sym, ◌∙◌}
 use native.Mathlib.Omega.{arith}
 use Rattle.frame.proofs.Picks.{by_test, pick_true, pick_false}
+use Rattle.frame.proofs.Tests.{either}
 use Rattle.frame.specs.Bytes.{pick}
 use Rattle.frame.specs.Frames.{sum}
 use Rattle.population.specs.Places.{nowhere}
@@ -18,11 +19,9 @@ use Rattle.report.specs.Report.{any_long, too_long, place_in, laid_out, places_o
 
 -- ---- how many have a place
 
-pub too_many : (n : ℕ) → 16 < n → 16 ≡ pick (ltb 16 n) 16 n
-too_many n h = sym (simp (lt-ltb 16 n h, pick_true))
-
-pub all_placed : (n : ℕ) → n ≤ 16 → n ≡ pick (ltb 16 n) 16 n
-all_placed n h = sym (simp (le-ltb 16 n h, pick_false))
+pub placed_is : (n placed : ℕ) → placed ≡ min n 16 → placed ≡ pick (ltb 16 n) 16 n
+placed_is n placed e =
+    either (ltb 16 n) (λ many. rw (many, pick_true) (omega (arith, ltb-true 16 n many))) (λ few. rw (few, pick_false) (omega (arith, ltb-false 16 n few)))
 
 most : (n : ℕ) → (pick (ltb 16 n) 16 n ≤ 16) × (pick (ltb 16 n) 16 n ≤ n)
 most n =

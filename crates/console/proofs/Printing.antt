@@ -5,7 +5,6 @@ use lib.Dec.{ltb}
 use lib.ListN.{length, replicate}
 use mathlib.Core.Bool.{Bool, true, false}
 use mathlib.Core.List.{List}
-use mathlib.Core.Logic.{◌≢◌}
 use mathlib.Core.Path.{◌≡◌, refl, ap, sym, subst, ◌∙◌}
 use native.Mathlib.Nat.{zero-add}
 use native.Mathlib.Omega.{arith}
@@ -21,8 +20,8 @@ use Rattle.report.proofs.Reports.{none_left}
 use Rattle.report.specs.Pieces.{piece_of, left_by}
 use Rattle.report.specs.Report.{steps_from, last_state, any_long, places_of, fresh, files_of}
 use Rattle.report.specs.Writing.{state_at, started, Wrote, Told}
-use Rattle.report.specs.declared.limits.Files.{Files}
-use Rattle.report.specs.declared.limits.Files.TheVariants.{Unreadable, TooLong, Fit}
+use Rattle.report.specs.declared.limits.Unfit.{Unfit}
+use Rattle.std.proofs.Common.{Result, Ok, Err}
 use Rattle.report.specs.declared.writing.Progress.{Progress}
 use Rattle.report.specs.declared.writing.Written.{Written}
 
@@ -126,21 +125,15 @@ told_there line before after used t same =
 
 -- ---- the whole of it
 
-pub unreadable_not_fit : Unreadable ≢ Fit
-unreadable_not_fit e = let z : ◌≡◌ {A = ℕ} 0 1 = cc in omega arith
-
-pub too_long_not_fit : TooLong ≢ Fit
-too_long_not_fit e = let z : ◌≡◌ {A = ℕ} 0 1 = cc in omega arith
-
-module _ (readable : Bool) (commands memory sizes : List ℕ) (files : Files) (is : files ≡ files_of readable (length commands) sizes) where
-  pub untouched : (known : Files) (whole : Bool) → files ≡ known → known ≢ Fit → Ran readable commands memory sizes memory whole
-  untouched known whole e not-fit = record { not_run = λ h. refl; run = λ h. absurd (not-fit (sym e ∙ is ∙ h)) }
+module _ (readable : Bool) (commands memory sizes : List ℕ) (files : Result (Unit {0}) Unfit) (is : files ≡ files_of readable (length commands) sizes) where
+  pub untouched : (unfit : Unfit) (whole : Bool) → files ≡ Err unfit → Ran readable commands memory sizes memory whole
+  untouched unfit whole e = record { not_run = λ h. refl; run = λ h. let z : Err unfit ≡ Ok tt = sym e ∙ is ∙ h in cc }
 
   -- files that fit are not long
-  pub short_sizes : files ≡ Fit → any_long sizes ≡ false
+  pub short_sizes : files ≡ Ok tt → any_long sizes ≡ false
   short_sizes fit = fit_short readable (length commands) sizes (sym is ∙ fit)
 
-  pub printed : (left : List ℕ) (places : List Place) (whole : Bool) → files ≡ Fit → places ≡ places_of sizes
+  pub printed : (left : List ℕ) (places : List Place) (whole : Bool) → files ≡ Ok tt → places ≡ places_of sizes
       → RanFrom commands memory places (length sizes) (replicate 136 0) left whole → Ran readable commands memory sizes left whole
   unfolding fresh
   printed left places whole fit row r =

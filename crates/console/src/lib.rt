@@ -6,7 +6,7 @@ ghost use Rattle.console.specs.Console.{Ran, RanFrom, Noticed};
 
 use places::lay_out;
 use population::places::Place;
-use report::limits::{Files, judge, write_notice};
+use report::limits::{Unfit, judge, write_notice};
 use report::writing::{Progress, write};
 
 pub mod places;
@@ -30,7 +30,7 @@ fn print_pieces(
     let mut selection = [0u8; 39];
     let mut progress = Progress::start();
     while !progress.over {
-        let written = write(
+        let Some(written) = write(
             commands,
             memory,
             output,
@@ -39,7 +39,9 @@ fn print_pieces(
             places,
             tags,
             progress,
-        );
+        ) else {
+            return false;
+        };
         let used = written.used;
         if !io::write_all(STDOUT_FILENO, &buffer[..used]) {
             return false;
@@ -50,7 +52,7 @@ fn print_pieces(
 }
 
 // The line of files that are not run, by way of a lent buffer. The result says whether standard output took it.
-fn print_notice(files: Files, buffer: &mut [u8]) -> bool
+fn print_notice(files: Result<(), Unfit>, buffer: &mut [u8]) -> bool
     ensures { Noticed files buffer.old buffer.new }
 {
     let used = write_notice(files, buffer);
@@ -65,12 +67,11 @@ pub fn print(readable: bool, commands: &[u8], memory: &mut [u8], sizes: &[u64]) 
     let mut buffer = io::large_buffer();
     let files = judge(readable, commands.len(), sizes);
     match files {
-        Files::Unreadable => print_notice(files, &mut buffer),
-        Files::TooLong => print_notice(files, &mut buffer),
-        Files::Fit => {
+        Ok(()) => {
             let mut output = [0u8; 136];
             let row = lay_out(sizes);
             print_pieces(commands, memory, &mut output, &mut buffer, row, sizes.len())
         }
+        Err(_) => print_notice(files, &mut buffer),
     }
 }

@@ -1,5 +1,5 @@
 // Where the tags lie in the memory: one behind the other.
-ghost use Rattle.std.specs.Prelude.{false, ◌≡◌, ltb, replicate};
+ghost use Rattle.std.specs.Prelude.{false, ◌≡◌, replicate};
 ghost use Rattle.frame.specs.Bytes.{pick};
 ghost use Rattle.population.specs.Places.{nowhere};
 ghost use Rattle.report.specs.Report.{any_long, places_of};
@@ -8,29 +8,17 @@ use population::places::Place;
 use report::limits::too_long;
 
 // Of more than sixteen tags only these have a place, and the call says that they are too many.
-fn at_most_16(tags: usize) -> usize
-    ensures { result ≡ pick (ltb 16 tags) 16 tags }
-{
-    if 16 < tags {
-        return 16;
-    }
-    tags
-}
-
 pub(crate) fn lay_out(sizes: &[u64]) -> [Place; 16]
     requires { any_long sizes.now ≡ false }
     ensures { result ≡ places_of sizes.now }
 {
-    let nowhere = Place { from: 0, size: 0 };
-    let mut places = [nowhere; 16];
-    let placed = at_most_16(sizes.len());
-    let mut from: u32 = 0;
-    let mut i = 0;
-    while i < placed {
+    let mut places = [Place { from: 0, size: 0 }; 16];
+    let placed = sizes.len().min(16);
+    let mut from = 0;
+    for i in 0..placed {
         let size = sizes[i] as u32;
         places[i] = Place { from, size };
         from += size;
-        i += 1;
     }
     places
 }

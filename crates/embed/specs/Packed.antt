@@ -86,7 +86,6 @@ stepped input s l records held =
 
 -- it is made where the thirteen numbers are a reader's state and the others are places
 pub record Unpacking (numbers state : List ℕ) (reader : Reader) : Type 0 where
-  pub thirteen : length state ≡ 13
   pub fits : reader_in state ≡ Some reader
   pub are_places : places_fit numbers ≡ true
 

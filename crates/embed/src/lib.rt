@@ -25,8 +25,7 @@ use reader::tally::Tally;
 const LIMIT: u64 = 4294967295;
 
 // The reader of a cursor and seven counts; none where a count is more than a tally can hold: then it has a bit above theirs.
-fn reader_of(state: &[u64]) -> Option<Reader>
-    requires { length state.now ≡ 13 }
+fn reader_of(state: &[u64; 13]) -> Option<Reader>
     ensures { result ≡ reader_in state.now }
 {
     let bits = state[1] | state[2] | state[3] | state[4] | state[5] | state[6] | state[7];
@@ -78,8 +77,7 @@ fn are_places(numbers: &[u64]) -> bool
 // Of the thirteen numbers only those are stored that a call may have changed: five where a byte is dropped.
 
 // Nothing changed but what is told of this call.
-fn keep(state: &mut [u64])
-    requires { length state.old ≡ 13 }
+fn keep(state: &mut [u64; 13])
     ensures { state.new ≡ kept state.old }
 {
     state[8] = 0;
@@ -87,8 +85,7 @@ fn keep(state: &mut [u64])
 }
 
 // A byte was dropped: the cursor, the count of its reason, and how many records are held.
-fn keep_drop(state: &mut [u64], reader: Reader, reason: Reason, held: usize)
-    requires { length state.old ≡ 13 }
+fn keep_drop(state: &mut [u64; 13], reader: Reader, reason: Reason, held: usize)
     ensures { state.new ≡ kept_drop state.old reader reason held }
 {
     let tally = reader.tally;
@@ -106,8 +103,7 @@ fn keep_drop(state: &mut [u64], reader: Reader, reason: Reason, held: usize)
 }
 
 // A command was answered: all but the counts of the drops.
-fn keep_answer(state: &mut [u64], called: Called, held: usize)
-    requires { length state.old ≡ 13 }
+fn keep_answer(state: &mut [u64; 13], called: Called, held: usize)
     ensures { state.new ≡ kept_answer state.old called held }
 {
     let bench = called.state;
@@ -123,8 +119,7 @@ fn keep_answer(state: &mut [u64], called: Called, held: usize)
 }
 
 // What the call changed is stored, and its number told.
-fn tell(state: &mut [u64], called: Called, held: usize) -> u64
-    requires { length state.old ≡ 13 }
+fn tell(state: &mut [u64; 13], called: Called, held: usize) -> u64
     ensures { (result ≡ number_of called.outcome) × (state.new ≡ kept_by state.old called held called.outcome) }
 {
     match called.outcome {
@@ -144,7 +139,7 @@ fn call_on(
     numbers: &[u64],
     selection: &mut [u8; 39],
     records: &mut [u64],
-    state: &mut [u64],
+    state: &mut [u64; 13],
     reader: Reader,
 ) -> u64
     requires { Unpacking numbers.now state.old reader }
@@ -206,9 +201,9 @@ pub fn poldrisk_call(
         ≡ called_on input.now memory.old output.old places.now selection.old records.old
         state.old }
 {
-    if state.len() != 13 {
+    let Some(state) = state.as_mut_array::<13>() else {
         return 20;
-    }
+    };
     let Some(reader) = reader_of(state) else {
         return 21;
     };
@@ -228,9 +223,9 @@ pub fn poldrisk_call(
 pub fn poldrisk_acknowledge(records: &mut [u64], state: &mut [u64], count: u64) -> u64
     ensures { list_left_by result records.new state.new ≡ acknowledged_on records.old state.old count }
 {
-    if state.len() != 13 {
+    let Some(state) = state.as_mut_array::<13>() else {
         return 20;
-    }
+    };
     if records.len() % 3 != 0 {
         return 23;
     }

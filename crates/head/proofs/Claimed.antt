@@ -8,26 +8,18 @@ use mathlib.Core.Path.{◌≡◌, refl, ap, ◌∙◌}
 use native.Mathlib.Omega.{arith}
 use Rattle.frame.proofs.Picks.{pick_true, pick_false}
 use Rattle.frame.specs.Bytes.{pick}
-use Rattle.frame.specs.Frames.{frame_length}
-use Rattle.head.proofs.Taken.{unrolled}
+use Rattle.head.proofs.Taken.{by_rules}
 use Rattle.head.specs.Claims.{CommandsTaken, OneCommand, MoreCommands, OneName, CrateNames, columns, FileLines, HeadLines, TagLines}
-use Rattle.head.specs.Commands.{taken_for, commands_in, commands_text}
+use Rattle.head.specs.Commands.{commands_text}
 use Rattle.head.specs.Files.{tag_name, file_text, tag_lines}
 use Rattle.head.specs.Head.{title_line, column_lines, head_of}
 use Rattle.text.proofs.Decimals.{one_digit}
-use Rattle.text.proofs.Spaces.{length_spaces}
+use Rattle.text.proofs.Lengths.{length_spaces}
 use Rattle.text.specs.Digits.{decimal}
 use Rattle.text.specs.Laying.{spaces}
 
 pub commands_taken : CommandsTaken
-unfolding taken_for frame_length
-commands_taken rest =
-    record {
-      at_end = λ e. unrolled rest ∙ ap (taken_for commands_in rest) e;
-      waiting = λ e. unrolled rest ∙ ap (taken_for commands_in rest) e;
-      dropped = λ r e. unrolled rest ∙ ap (taken_for commands_in rest) e;
-      accepted = λ pl e. unrolled rest ∙ ap (taken_for commands_in rest) e;
-    }
+commands_taken = by_rules
 
 pub one_name : OneName
 unfolding tag_name pick

@@ -1,7 +1,7 @@
 -- How many commands are taken, step by step: more steps than there are bytes change nothing.
 use Prim.Native.Nat.{ℕ, zero, suc, ◌+◌, ◌-◌, ◌≤◌, ◌<◌}
 use lib.ListN.{length, take, drop, length-drop}
-use lib.Seq.{take_all, drop-drop}
+use lib.Seq.{take_all}
 use mathlib.Core.List.{List, [], ◌∷◌}
 use mathlib.Core.Path.{◌≡◌, refl, ap, sym, ◌∙◌}
 use native.Mathlib.Omega.{arith}
@@ -12,7 +12,9 @@ use Rattle.frame.specs.Frames.{frame_length}
 use Rattle.frame.specs.declared.finding.Found.{Found}
 use Rattle.frame.specs.declared.finding.Found.TheVariants.{End, Drop, Wait, Accept}
 use Rattle.frame.specs.declared.finding.Reason.{Reason}
-use Rattle.head.specs.Commands.{taken_for, taken_by, commands_in, bytes_taken}
+use Rattle.head.specs.Claims.{ByTheRules}
+use Rattle.head.specs.Commands.{taken_for, taken_by, commands_in}
+use Rattle.std.proofs.Common.{◌⊎◌, inl, inr}
 
 -- of the bytes that are left at least one is taken, or nothing more is counted
 same_for : (f g : List ℕ → ℕ) (rest : List ℕ) → ((k : ℕ) → 0 < k → f (drop k rest) ≡ g (drop k rest)) → (found : Found)
@@ -51,66 +53,42 @@ unrolled rest =
     (λ k some. enough (length rest) (length (drop k rest)) (drop k rest) (omega (arith, length-drop k rest)) (omega arith))
     (find commands rest)
 
--- ---- what is counted, by the bytes that are taken
-
-module _ (more : List ℕ → ℕ) (rest : List ℕ) where
-  stops_for : (found : Found) → bytes_taken found ≡ 0 → taken_for more rest found ≡ 0
-  unfolding taken_for bytes_taken frame_length
-  stops_for End e = refl
-  stops_for Wait e = refl
-  stops_for (Drop r) e = absurd (omega arith)
-  stops_for (Accept pl) e = absurd (omega arith)
-
-  drops_for : (found : Found) → bytes_taken found ≡ 1 → taken_for more rest found ≡ more (drop (bytes_taken found) rest)
-  unfolding taken_for bytes_taken frame_length
-  drops_for End e = absurd (omega arith)
-  drops_for Wait e = absurd (omega arith)
-  drops_for (Drop r) e = refl
-  drops_for (Accept pl) e = absurd (omega arith)
-
-  takes_for : (found : Found) → 1 < bytes_taken found → taken_for more rest found ≡ 1 + more (drop (bytes_taken found) rest)
-  unfolding taken_for bytes_taken frame_length
-  takes_for End e = absurd (omega arith)
-  takes_for Wait e = absurd (omega arith)
-  takes_for (Drop r) e = absurd (omega arith)
-  takes_for (Accept pl) e = refl
-
 -- a byte is dropped only where there is one
 pub drop_there : (rest : List ℕ) (r : Reason) → find commands rest ≡ Drop r → 1 ≤ length rest
 unfolding find pick
 drop_there [] r e = let z : ◌≡◌ {A = ℕ} 0 1 = cc in absurd (omega arith)
 drop_there (b ∷ rest) r e = omega arith
 
--- ---- from a place in the input on
+-- The finding rules alone say it.
+pub by_rules : (rest : List ℕ) → ByTheRules rest
+unfolding taken_for frame_length
+by_rules rest =
+    record {
+      at_end = λ e. unrolled rest ∙ ap (taken_for commands_in rest) e;
+      waiting = λ e. unrolled rest ∙ ap (taken_for commands_in rest) e;
+      dropped = λ r e. unrolled rest ∙ ap (taken_for commands_in rest) e;
+      accepted = λ pl e. unrolled rest ∙ ap (taken_for commands_in rest) e;
+    }
 
-module _ (input : List ℕ) (at : ℕ) where
-  all_left : take (length input - at) (drop at input) ≡ drop at input
-  all_left = take_all (length input - at) (drop at input) (omega (arith, length-drop at input))
+-- ---- what is left of the input behind so many bytes
 
-  pub reach : (bytes : ℕ) → at ≤ length input → bytes ≤ length (take (length input - at) (drop at input)) → at + bytes ≤ length input
-  reach bytes h k = omega (arith, ap length all_left, length-drop at input)
+module _ (rest : List ℕ) where
+  left_is : (bytes : ℕ) → take (length rest - bytes) (drop bytes rest) ≡ drop bytes rest
+  left_is bytes = take_all (length rest - bytes) (drop bytes rest) (omega (arith, length-drop bytes rest))
 
-module _ (input : List ℕ) (at bytes : ℕ) (is : bytes ≡ bytes_taken (find commands (take (length input - at) (drop at input)))) where
-  whole : bytes_taken (find commands (drop at input)) ≡ bytes
-  whole = ap (λ (rest : List ℕ). bytes_taken (find commands rest)) (sym (all_left input at)) ∙ sym is
+  pub length_left : (bytes : ℕ) → length (take (length rest - bytes) (drop bytes rest)) ≡ length rest - bytes
+  length_left bytes = ap length (left_is bytes) ∙ length-drop bytes rest
 
-  behind : commands_in (drop (bytes_taken (find commands (drop at input))) (drop at input)) ≡ commands_in (drop (at + bytes) input)
-  behind =
-      ap (λ (k : ℕ). commands_in (drop k (drop at input))) whole ∙ ap commands_in (drop-drop bytes at input)
+  pub none_more : {found : Found} → found ≡ find commands rest → (found ≡ End) ⊎ (found ≡ Wait) → commands_in rest ≡ 0
+  none_more is stops =
+      elim stops [
+        | inl e ↦ (by_rules rest).at_end (sym is ∙ e)
+        | inr e ↦ (by_rules rest).waiting (sym is ∙ e)
+      ]
 
-  pub none_more : bytes ≡ 0 → commands_in (drop at input) ≡ 0
-  none_more e = unrolled (drop at input) ∙ stops_for commands_in (drop at input) (find commands (drop at input)) (whole ∙ e)
+  pub after_drop : (r : Reason) → find commands rest ≡ Drop r → commands_in rest ≡ commands_in (take (length rest - 1) (drop 1 rest))
+  after_drop r e = (by_rules rest).dropped r e ∙ ap commands_in (sym (left_is 1))
 
-  pub one_dropped : bytes ≡ 1 → commands_in (drop at input) ≡ commands_in (drop (at + bytes) input)
-  one_dropped e =
-      unrolled (drop at input) ∙ drops_for commands_in (drop at input) (find commands (drop at input)) (whole ∙ e) ∙ behind
-
-  pub one_taken : 1 < bytes → commands_in (drop at input) ≡ 1 + commands_in (drop (at + bytes) input)
-  one_taken h =
-      unrolled (drop at input)
-      ∙ takes_for commands_in (drop at input) (find commands (drop at input)) (omega (arith, whole))
-      ∙ ap (λ (n : ℕ). 1 + n) behind
-
-pub none_left : (input : List ℕ) (at : ℕ) → length input ≤ at → commands_in (drop at input) ≡ 0
-unfolding commands_in
-none_left input at h = none_taken _ (drop at input) (omega (arith, length-drop at input))
+  pub after_accept : (pl : ℕ) → find commands rest ≡ Accept pl
+      → commands_in rest ≡ 1 + commands_in (take (length rest - (7 + pl)) (drop (7 + pl) rest))
+  after_accept pl e = (by_rules rest).accepted pl e ∙ ap (λ (l : List ℕ). 1 + commands_in l) (sym (left_is (7 + pl)))

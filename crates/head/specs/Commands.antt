@@ -23,12 +23,5 @@ taken_by (suc n) rest = taken_for (taken_by n) rest (find commands rest)
 unfoldable pub commands_in : List ℕ → ℕ
 commands_in input = taken_by (length input) input
 
--- how many bytes the rules take: none at the end, and none where a frame is not all there
-unfoldable pub bytes_taken : Found → ℕ
-bytes_taken End = 0
-bytes_taken Wait = 0
-bytes_taken (Drop r) = 1
-bytes_taken (Accept pl) = frame_length pl
-
 unfoldable pub commands_text : ℕ → List ℕ
 commands_text n = ascii ", " ++ decimal n ++ pick (eqb n 1) (ascii " command taken") (ascii " commands taken")

@@ -1,6 +1,5 @@
 pub mod Choices
 pub mod Claimed
-pub mod CommandTexts
 pub mod ErrorTexts
 pub mod Printed
 pub mod Shown

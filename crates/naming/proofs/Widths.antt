@@ -20,7 +20,7 @@ use Rattle.tag.specs.contracts.commands.Parsed.{the_type}
 use Rattle.tag.proofs.commands.Parsed.TheLaws.{the_laws}
 use Rattle.tag.specs.declared.commands.Parsed.{Parsed}
 use Rattle.tag.specs.declared.commands.Parsed.TheVariants.{Malformed, Inventory, Read, Write, Lock, Kill}
-use Rattle.text.proofs.Chains.{hex_short}
+use Rattle.text.proofs.Lengths.{hex_short}
 use Rattle.text.proofs.Decimals.{width_one, width_more, length_decimal, decimal_64}
 use Rattle.text.specs.Digits.{width, decimal}
 
@@ -33,7 +33,7 @@ width_most (suc k) n h =
 pub decimal_most : (k n : ℕ) → n < 10 ^ suc k → length (decimal n) ≤ suc k
 decimal_most k n h = omega (arith, length_decimal n (width n) refl, width_most k n h)
 
-bank_short : (bank : ℕ) → length (bank_name bank) ≤ 8
+pub bank_short : (bank : ℕ) → length (bank_name bank) ≤ 8
 unfolding bank_name
 bank_short bank =
     by_test (λ (text : List ℕ). length text ≤ 8) (eqb bank 0) (λ _. omega arith)

@@ -1,5 +1,4 @@
-// What the failure sheet calls a command and an error answer: the two of its columns that are words. Each function hands back the place behind what it put,
-// and where the longest has no room puts nothing.
+// What the failure sheet calls a command and an error answer: the two of its columns that are words. Each is put where the longest has room, and nothing else is.
 #![tactic(auto)]
 
 pub mod commands;

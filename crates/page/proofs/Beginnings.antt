@@ -16,8 +16,9 @@ use Rattle.report.specs.Lines.{too_long_line, unreadable_line}
 use Rattle.report.proofs.NotRun.{fit_short}
 use Rattle.report.specs.Report.{any_long, files_of, notice_of}
 use Rattle.report.specs.Writing.{Told}
-use Rattle.report.specs.declared.limits.Files.{Files}
-use Rattle.report.specs.declared.limits.Files.TheVariants.{Unreadable, TooLong, Fit}
+use Rattle.report.specs.declared.limits.Unfit.{Unfit}
+use Rattle.report.specs.declared.limits.Unfit.TheVariants.{Unreadable, TooLong}
+use Rattle.std.proofs.Common.{Result, Ok, Err}
 use Rattle.page.specs.Page.{run_lines, first_lines, beginning, rows_follow, has_rows}
 use Rattle.page.specs.Beginning.{Begins}
 use Rattle.page.specs.declared.beginning.Begun.{Begun}
@@ -43,13 +44,13 @@ module _ (before : List ℕ) where
 
     -- ---- the line of files that are not run
 
-    notice_short : (files : Files) → length (notice_of files) ≤ 2048
+    notice_short : (files : Result (Unit {0}) Unfit) → length (notice_of files) ≤ 2048
     unfolding notice_of unreadable_line too_long_line
-    notice_short Unreadable = omega arith
-    notice_short TooLong = omega arith
-    notice_short Fit = omega arith
+    notice_short (Err Unreadable) = omega arith
+    notice_short (Err TooLong) = omega arith
+    notice_short (Ok u) = omega arith
 
-    pub notice_begins : (files : Files) → Told (notice_of files) before after used → Begins (notice_of files) false before after (begun_of used false)
+    pub notice_begins : (files : Result (Unit {0}) Unfit) → Told (notice_of files) before after used → Begins (notice_of files) false before after (begun_of used false)
     notice_begins files told =
         let less = notice_short files in
         let there = told.long (omega arith) in
@@ -61,10 +62,13 @@ module _ (before : List ℕ) where
       abbrev Run : ℕ → Bool → Type 0
       Run n rows = Begins (run_lines is_crate input memory sizes places) (good_population memory (length sizes) places) before after (begun_of n rows)
 
-      pub refused_begins : not good ≡ true → LaidWithin 29 (refused_line 11) 0 before after used → Run used false
+      -- what the writer leaves is what the buffer holds
+      pub refused_begins : (n : ℕ) (written : List ℕ) → not good ≡ true → n ≡ 11 → after ≡ written → LaidWithin 29 (refused_line n) 0 before written used
+          → Run used false
       unfolding run_lines
-      refused_begins bad laid =
+      refused_begins n written bad eleven same told =
           let e : good_population memory (length sizes) places ≡ false = sym is ∙ not-true good bad in
+          let laid : LaidWithin 29 (refused_line 11) 0 before after used = rw same (rw eleven at told) in
           rw (e, pick_false) (put_there (refused_line 11) false (omega (arith, laid.short)) (within_put 29 (refused_line 11) 0 before after used (omega arith) laid))
 
       pub head_begins : not good ≡ false → Headed is_crate input sizes before after used → Run used true
@@ -78,37 +82,32 @@ module _ (before : List ℕ) where
 
 -- ---- by the files
 
-module _ (readable is_crate : Bool) (input memory sizes : List ℕ) (places : List Place) (before after : List ℕ) (r : Begun) (files : Files)
+module _ (readable is_crate : Bool) (input memory sizes : List ℕ) (places : List Place) (before after : List ℕ) (r : Begun) (files : Result (Unit {0}) Unfit)
     (is : files ≡ files_of readable (length input) sizes) where
   abbrev Page : Type 0
   Page = Begins (beginning readable is_crate input memory sizes places) (has_rows readable input memory sizes places) before after r
 
-  abbrev First : Files → Type 0
+  abbrev First : Result (Unit {0}) Unfit → Type 0
   First known = Begins (first_lines known is_crate input memory sizes places) (rows_follow known (good_population memory (length sizes) places)) before after r
 
-  known_page : (known : Files) → files ≡ known → First known → Page
+  known_page : (known : Result (Unit {0}) Unfit) → files ≡ known → First known → Page
   unfolding beginning has_rows
   known_page known e first = rw (sym is ∙ e) first
 
-  pub unreadable_page : files ≡ Unreadable → Begins (notice_of files) false before after r → Page
+  pub unfit_page : (unfit : Unfit) → files ≡ Err unfit → Begins (notice_of (Err unfit)) false before after r → Page
   unfolding first_lines rows_follow
-  unreadable_page e begins = known_page Unreadable e (rw e at begins)
+  unfit_page unfit e begins = known_page (Err unfit) e begins
 
-  pub long_page : files ≡ TooLong → Begins (notice_of files) false before after r → Page
+  pub run_page : (u : Unit {0}) → files ≡ Ok u → Begins (run_lines is_crate input memory sizes places) (good_population memory (length sizes) places) before after r → Page
   unfolding first_lines rows_follow
-  long_page e begins = known_page TooLong e (rw e at begins)
-
-  pub run_page : files ≡ Fit → Begins (run_lines is_crate input memory sizes places) (good_population memory (length sizes) places) before after r → Page
-  unfolding first_lines rows_follow
-  run_page e begins = known_page Fit e begins
+  run_page u e begins = known_page (Ok u) e begins
 
 -- ---- where rows follow no file is too long
 
-by_files : (files : Files) (good : Bool) → rows_follow files good ≡ true → files ≡ Fit
+by_files : (files : Result (Unit {0}) Unfit) (good : Bool) → rows_follow files good ≡ true → files ≡ Ok tt
 unfolding rows_follow
-by_files Unreadable good h = absurd (true≢false (sym h))
-by_files TooLong good h = absurd (true≢false (sym h))
-by_files Fit good h = refl
+by_files (Err unfit) good h = absurd (true≢false (sym h))
+by_files (Ok tt) good h = refl
 
 pub rows_short : (readable : Bool) (input memory sizes : List ℕ) (places : List Place) → has_rows readable input memory sizes places ≡ true → any_long sizes ≡ false
 unfolding has_rows

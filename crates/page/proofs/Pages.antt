@@ -13,8 +13,9 @@ use Rattle.population.specs.Places.{good_population}
 use Rattle.population.specs.declared.places.Place.{Place}
 use Rattle.report.specs.Lines.{too_long_line, unreadable_line}
 use Rattle.report.specs.Report.{any_long, too_long, places_of, fresh, files_of, notice_of}
-use Rattle.report.specs.declared.limits.Files.{Files}
-use Rattle.report.specs.declared.limits.Files.TheVariants.{Unreadable, TooLong, Fit}
+use Rattle.report.specs.declared.limits.Unfit.{Unfit}
+use Rattle.report.specs.declared.limits.Unfit.TheVariants.{Unreadable, TooLong}
+use Rattle.std.proofs.Common.{Result, Ok, Err}
 use Rattle.sheet.proofs.Claimed.{same_sheet, pieces_are_the_text}
 use Rattle.page.proofs.Sheets.{sheet_is, bad_crate, too_long_lem}
 use Rattle.page.specs.Claims.{ReadableSheet, SamePage, PagePrinted}
@@ -47,7 +48,7 @@ module _ (is_crate : Bool) (commands memory sizes rooms : List ℕ) where
         ≡ printed_sheet readable is_crate commands memory sizes
 
     -- by how the files stand
-    known_page : (files : Files) → files_of readable (length commands) sizes ≡ files
+    known_page : (files : Result (Unit {0}) Unfit) → files_of readable (length commands) sizes ≡ files
         → first_lines files is_crate commands memory sizes places ++ pick (rows_follow files (good_population memory (length sizes) places)) Rest []
         ≡ printed_sheet readable is_crate commands memory sizes
         → Printed
@@ -56,12 +57,12 @@ module _ (is_crate : Bool) (commands memory sizes rooms : List ℕ) where
 
     unreadable_page : readable ≡ false → Printed
     unfolding files_of first_lines rows_follow notice_of printed_sheet
-    unreadable_page not-read = known_page Unreadable (rw (not-read, pick_false)) (rw pick_false (append-nil unreadable_line ∙ sym (rw (not-read, pick_false))))
+    unreadable_page not-read = known_page (Err Unreadable) (rw (not-read, pick_false)) (rw pick_false (append-nil unreadable_line ∙ sym (rw (not-read, pick_false))))
 
     long_page : readable ≡ true → too_long (length commands) sizes ≡ true → Printed
     unfolding files_of first_lines rows_follow notice_of printed_sheet
     long_page all_read long =
-        known_page TooLong (rw (all_read, long, pick_true, pick_true))
+        known_page (Err TooLong) (rw (all_read, long, pick_true, pick_true))
         (rw pick_false (append-nil too_long_line ∙ sym (rw (all_read, pick_true) (too_long_lem is_crate commands memory sizes long))))
 
     fit_page : readable ≡ true → too_long (length commands) sizes ≡ false → places ≡ places_of sizes
@@ -69,8 +70,8 @@ module _ (is_crate : Bool) (commands memory sizes rooms : List ℕ) where
         → Printed
     unfolding files_of first_lines rows_follow has_rows printed_sheet
     fit_page all_read short laid over =
-        let fit : files_of readable (length commands) sizes ≡ Fit = rw (all_read, short, pick_true, pick_false) in
-        known_page Fit fit (rw (all_read, pick_true) (run_page places laid short (λ good. over (rw fit good))))
+        let fit : files_of readable (length commands) sizes ≡ Ok tt = rw (all_read, short, pick_true, pick_false) in
+        known_page (Ok tt) fit (rw (all_read, pick_true) (run_page places laid short (λ good. over (rw fit good))))
 
 pub page_printed : PagePrinted
 unfolding too_long

@@ -1,13 +1,12 @@
 -- The page: a head with the files, and behind it the rows and the foot of the sheet; or the one line where there is no sheet.
-use Rattle.std.specs.Prelude.{ℕ, Bool, false, List, ◌++◌, length}
+use Rattle.std.specs.Prelude.{ℕ, Bool, false, List, ◌++◌, length, Result, Ok, Err}
 use Rattle.frame.specs.Bytes.{pick}
 use Rattle.head.specs.Head.{head_of}
 use Rattle.population.specs.Places.{good_population}
 use Rattle.population.specs.declared.places.Place.{Place}
 use Rattle.report.specs.Lines.{too_long_line, unreadable_line}
 use Rattle.report.specs.Report.{too_long, places_of, files_of, notice_of}
-use Rattle.report.specs.declared.limits.Files.{Files}
-use Rattle.report.specs.declared.limits.Files.TheVariants.{Unreadable, TooLong, Fit}
+use Rattle.report.specs.declared.limits.Unfit.{Unfit}
 use Rattle.sheet.specs.Sheet.{teller, begun_on}
 use Rattle.text.specs.Counts.{refused_line}
 use Rattle.text.specs.Telling.{text_from}
@@ -28,19 +27,17 @@ printed_sheet readable is_crate input memory sizes = pick readable (sheet_of is_
 unfoldable pub run_lines : Bool → List ℕ → List ℕ → List ℕ → List Place → List ℕ
 run_lines is_crate input memory sizes places = pick (good_population memory (length sizes) places) (head_of is_crate input sizes) (refused_line 11)
 
-unfoldable pub first_lines : Files → Bool → List ℕ → List ℕ → List ℕ → List Place → List ℕ
-first_lines Unreadable is_crate input memory sizes places = notice_of Unreadable
-first_lines TooLong is_crate input memory sizes places = notice_of TooLong
-first_lines Fit is_crate input memory sizes places = run_lines is_crate input memory sizes places
+unfoldable pub first_lines : Result (Unit {0}) Unfit → Bool → List ℕ → List ℕ → List ℕ → List Place → List ℕ
+first_lines (Err unfit) is_crate input memory sizes places = notice_of (Err unfit)
+first_lines (Ok _) is_crate input memory sizes places = run_lines is_crate input memory sizes places
 
 unfoldable pub beginning : Bool → Bool → List ℕ → List ℕ → List ℕ → List Place → List ℕ
 beginning readable is_crate input memory sizes places = first_lines (files_of readable (length input) sizes) is_crate input memory sizes places
 
 -- whether rows and a foot follow
-unfoldable pub rows_follow : Files → Bool → Bool
-rows_follow Unreadable good = false
-rows_follow TooLong good = false
-rows_follow Fit good = good
+unfoldable pub rows_follow : Result (Unit {0}) Unfit → Bool → Bool
+rows_follow (Err unfit) good = false
+rows_follow (Ok _) good = good
 
 unfoldable pub has_rows : Bool → List ℕ → List ℕ → List ℕ → List Place → Bool
 has_rows readable input memory sizes places = rows_follow (files_of readable (length input) sizes) (good_population memory (length sizes) places)

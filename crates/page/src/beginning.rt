@@ -2,28 +2,19 @@
 ghost use Rattle.std.specs.Prelude.{◌≤◌, false, length};
 ghost use Rattle.population.specs.Places.{good_population};
 ghost use Rattle.page.specs.Page.{run_lines, beginning, has_rows};
-ghost use Rattle.report.specs.Report.{notice_of};
 ghost use Rattle.page.specs.Beginning.{Begins};
 
 use head::writing::write_head;
 use population::places::{Place, is_good_population};
-use report::limits::{Files, judge, write_notice};
-use text::counts::put_refused;
+use reader::outcome::{Outcome, number_of};
+use report::limits::{judge, write_notice};
+use text::writer::Writer;
 
 // How many bytes of the buffer it has, and whether rows and a foot follow.
 #[derive(Clone, Copy)]
 pub struct Begun {
     pub used: usize,
     pub rows: bool,
-}
-
-// Of files that are not run.
-fn begin_notice(files: Files, buffer: &mut [u8]) -> Begun
-    requires { 2048 ≤ length buffer.old }
-    ensures { Begins (notice_of files) false buffer.old buffer.new result }
-{
-    let used = write_notice(files, buffer);
-    Begun { used, rows: false }
 }
 
 // Of files that are run: a bad crate has no head, which would tell of a run that was not made.
@@ -42,7 +33,9 @@ fn begin_run(
         buffer.old buffer.new result }
 {
     if !is_good_population(memory, sizes.len(), places) {
-        let used = put_refused(buffer, 0, 11);
+        let mut writer = Writer { buffer, at: 0 };
+        writer.put_refused(number_of(Outcome::BadImage));
+        let used = writer.at;
         return Begun { used, rows: false };
     }
     let used = write_head(numbered, commands, sizes, buffer);
@@ -70,10 +63,11 @@ pub fn begin(
             rows: false,
         };
     }
-    let files = judge(readable, commands.len(), sizes);
-    match files {
-        Files::Unreadable => begin_notice(files, buffer),
-        Files::TooLong => begin_notice(files, buffer),
-        Files::Fit => begin_run(numbered, commands, memory, sizes, places, buffer),
+    match judge(readable, commands.len(), sizes) {
+        Ok(()) => begin_run(numbered, commands, memory, sizes, places, buffer),
+        Err(unfit) => Begun {
+            used: write_notice(Err(unfit), buffer),
+            rows: false,
+        },
     }
 }

@@ -19,7 +19,7 @@ fn run(heading: &[u8], tag: [u8; 86], command: &[u8]) {
     let mut line = [0u8; 408];
     let mut places = [Place { from: 0, size: 0 }; 16];
     places[0] = Place { from: 0, size: 86 };
-    let written = write(
+    let Some(written) = write(
         command,
         &mut image,
         &mut output,
@@ -28,7 +28,9 @@ fn run(heading: &[u8], tag: [u8; 86], command: &[u8]) {
         places,
         1,
         Progress::start(),
-    );
+    ) else {
+        return;
+    };
     let used = written.used;
     io::write_all(STDOUT_FILENO, heading);
     io::write_all(STDOUT_FILENO, &line[..used]);

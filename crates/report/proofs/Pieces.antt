@@ -1,6 +1,6 @@
 -- The report in pieces: what holds of the buffer and the state at every line.
 use Prim.Native.Nat.{ℕ, zero, suc, ◌+◌, ◌-◌, ◌≤◌, ◌<◌}
-use borrow.Author.Tests.{lt-ltb, le-ltb, eqb-true, eqb-false, eq-eqb, ne_eqb}
+use borrow.Author.Tests.{eqb-true, eqb-false, eq-eqb, ne_eqb}
 use lib.Dec.{eqb}
 use lib.ListN.{length, replicate}
 use lib.Seq.{length-sets}
@@ -19,13 +19,11 @@ use Rattle.report.proofs.Reports.{less_left, one_left}
 use Rattle.report.specs.Lines.{line_of, ends}
 use Rattle.report.specs.Pieces.{piece_of, left_by, over_by}
 use Rattle.report.specs.Report.{steps_from, lines_of}
-use Rattle.report.specs.Writing.{OneLine, room_in, Wrote}
+use Rattle.report.specs.Writing.{OneLine, Wrote}
 use Rattle.report.specs.declared.writing.Progress.{Progress}
-use Rattle.report.specs.declared.writing.Room.{Room}
-use Rattle.report.specs.declared.writing.Room.TheVariants.{Enough, TooShort}
-use Rattle.report.specs.declared.writing.Written.{Written}
 use Rattle.text.proofs.Puts.{put_join}
 use Rattle.text.proofs.Written.{put_first}
+use Rattle.text.specs.declared.writer.Writer.{Writer}
 
 -- one call more
 one_more : (c : Call) (k : ℕ) (s : State) → (step c (after (replicate k c) s)).next ≡ after (replicate (suc k) c) s
@@ -83,17 +81,18 @@ module _ (input before : List ℕ) (start : State) (over₀ : Bool) where
         left = g.left ∙ rw (one_left input s) (omega arith);
       }
 
-  pub goes : (buffer after : List ℕ) (used : ℕ) (s next : State) (over : Bool) (r : Written) → Going buffer used s over → over ≡ false → used + 408 ≤ length buffer
-      → OneLine input s used buffer after next r → Going after r.used next r.progress.over
-  goes buffer after used s next over r g not-over room one =
+  pub goes : {w after : Writer} (s next : State) (over last : Bool) → Going w.buffer.now w.at s over → over ≡ false → w.at + 408 ≤ length w.buffer.now
+      → OneLine input s w after next last → Going after.buffer.now after.at next last
+  goes {w = w} {after = after} s next over last g not-over room one =
+      let put = one.line.put room in
       rw (one.next_is, one.over_is)
-      (further buffer after used r.used s (rw not-over at g) (omega (arith, g.same)) (omega (arith, g.same, one.line.most)) one.line.put)
+      (further w.buffer.now after.buffer.now w.at after.at s (rw not-over at g) (omega (arith, g.same)) (omega (arith, g.same, put.next_is, one.line.short)) put)
 
 -- each line leaves less to write
-pub falls : (input buffer after : List ℕ) (at : ℕ) (s next : State) (over : Bool) (r : Written) → over ≡ false → OneLine input s at buffer after next r
-    → pick r.progress.over 0 (suc (work input next)) < pick over 0 (suc (work input s))
-falls input buffer after at s next over r not-over one =
-    either r.progress.over (λ last. simp (last, not-over, pick_true, pick_false) (omega arith))
+pub falls : (input : List ℕ) {w after : Writer} (s next : State) (over last : Bool) → over ≡ false → OneLine input s w after next last
+    → pick last 0 (suc (work input next)) < pick over 0 (suc (work input s))
+falls input s next over last not-over one =
+    either last (λ ended. simp (ended, not-over, pick_true, pick_false) (omega arith))
     (λ more.
     let less = less_left input s (sym one.over_is ∙ more) in
     simp (one.next_is, more, not-over, pick_false) (omega arith))
@@ -106,43 +105,33 @@ eqb_more k n =
     (λ some. some ∙ sym (ne_eqb k (k + n) (λ e. eqb-false 0 n some (omega arith))))
 
 module _ (input before : List ℕ) (start : State) (over₀ : Bool) where
-  -- the rest of the buffer takes no more
-  full : (buffer : List ℕ) (used : ℕ) (s : State) (q : Progress) (room : Room) → room ≡ room_in (length before)
+  -- the rest of the buffer takes no more; what the writer leaves is what the buffer holds
+  full : (buffer held : List ℕ) (used : ℕ) (s : State) (q : Progress) → 408 ≤ length before → held ≡ buffer
       → Going input before start over₀ buffer used s q.over
-      → piece_of input (length before - used) q.over s ≡ [] → Wrote input before buffer start over₀ s record { room = room; used = used; progress = q }
+      → piece_of input (length before - used) q.over s ≡ [] → Wrote input before held start over₀ s record { used = used; progress = q }
   unfolding lines_of left_by over_by
-  full buffer used s q room room_is g none =
+  full buffer held used s q long is g none =
       let bytes : lines_of input start (piece_of input (length before) over₀ start) ≡ g.bytes
       = g.lines ∙ rw none (append-nil g.bytes) in
       let calls : length (piece_of input (length before) over₀ start) ≡ g.calls = g.piece ∙ rw none (omega arith) in
       let first = put_first g.bytes before buffer used g.put (omega (arith, g.within, g.put.next_is)) in
       record {
-        room_is = room_is;
+        long = long;
         used_is = rw bytes first.0;
         within = g.within;
-        buffer_is = rw bytes first.1;
+        buffer_is = is ∙ rw bytes first.1;
         next_is = g.made ∙ ap (λ (k : ℕ). after (replicate k (call input)) start) (sym calls);
         over_is =
             over_is input q.over s ∙ eqb_more g.calls (length (steps_from input q.over s)) ∙ rw (calls, g.left);
       }
 
-  enough : 408 ≤ length before → Enough ≡ room_in (length before)
-  unfolding room_in
-  enough h = simp (le-ltb (length before) 408 h, pick_false)
+  pub filled : (buffer held : List ℕ) (used : ℕ) (s : State) (q : Progress) → 408 ≤ length before → held ≡ buffer
+      → Going input before start over₀ buffer used s q.over → length buffer < used + 408
+      → Wrote input before held start over₀ s record { used = used; progress = q }
+  filled buffer held used s q long is g little =
+      full buffer held used s q long is g (no_room input (length before - used) q.over s (omega (arith, g.within, g.same)))
 
-  pub filled : (buffer : List ℕ) (used : ℕ) (s : State) (q : Progress) → 408 ≤ length before → Going input before start over₀ buffer used s q.over
-      → length buffer < used + 408 → Wrote input before buffer start over₀ s record { room = Enough; used = used; progress = q }
-  filled buffer used s q room g little =
-      full buffer used s q Enough (enough room) g (no_room input (length before - used) q.over s (omega (arith, g.within, g.same)))
-
-  pub ended : (buffer : List ℕ) (used : ℕ) (s : State) (q : Progress) → 408 ≤ length before → Going input before start over₀ buffer used s q.over
-      → q.over ≡ true → Wrote input before buffer start over₀ s record { room = Enough; used = used; progress = q }
-  ended buffer used s q room g over =
-      full buffer used s q Enough (enough room) g (rw over (piece_over input (length before - used) s))
-
-pub too_short : (input before : List ℕ) (start : State) (p : Progress) → length before < 408
-    → Wrote input before before start p.over start record { room = TooShort; used = 0; progress = p }
-unfolding room_in
-too_short input before start p h =
-    full input before start p.over before 0 start p TooShort (simp (lt-ltb (length before) 408 h, pick_true)) (going input before start p.over)
-    (no_room input (length before - 0) p.over start (omega arith))
+  pub ended : (buffer held : List ℕ) (used : ℕ) (s : State) (q : Progress) → 408 ≤ length before → held ≡ buffer
+      → Going input before start over₀ buffer used s q.over → q.over ≡ true
+      → Wrote input before held start over₀ s record { used = used; progress = q }
+  ended buffer held used s q long is g over = full buffer held used s q long is g (rw over (piece_over input (length before - used) s))

@@ -1,6 +1,6 @@
 -- The claims page of the report: what is promised of its definition, each as a named statement with document 01's words beside it. Each
 -- is proved in proofs/Claimed.antt. That the code writes this report is the contract of `report::writing::write`.
-use Rattle.std.specs.Prelude.{ℕ, suc, ◌+◌, ◌-◌, ◌*◌, ◌/◌, ◌≤◌, ◌<◌, Bool, true, false, not, ◌&&◌, List, [], ◌∷◌, ◌++◌, ◌⊎◌, ◌↔◌, ◌≢◌, ◌≡◌, eqb, length, take, drop, replicate, get_or}
+use Rattle.std.specs.Prelude.{ℕ, suc, ◌+◌, ◌-◌, ◌*◌, ◌/◌, ◌≤◌, ◌<◌, Bool, true, false, not, ◌&&◌, List, [], ◌∷◌, ◌++◌, ◌⊎◌, ◌↔◌, ◌≢◌, ◌≡◌, eqb, length, take, drop, replicate, get_or, Ok}
 use Rattle.reader.specs.Outcomes.{number_of}
 use Rattle.effects.specs.Sample.{sample, killed}
 use Rattle.reader.specs.declared.outcome.Outcome.{Outcome}
@@ -16,7 +16,6 @@ use Rattle.reader.specs.declared.tally.Tally.{Tally}
 use Rattle.report.specs.Lines.{too_long_line, drop_line, frame_line, longest_line, line_of}
 use Rattle.report.specs.Pieces.{piece_of, left_by, over_by, pieces}
 use Rattle.report.specs.Report.{lines_of, report_from, last_state, too_long, places_of, fresh, report_of, files_of, notice_of, printed}
-use Rattle.report.specs.declared.limits.Files.TheVariants.{Fit}
 use Rattle.text.specs.Counts.{counts_line, refused_line}
 
 -- ---- the report that document 01 prints
@@ -84,13 +83,13 @@ UnreadableReport =
 abbrev pub NoticeAlone : Type 0
 NoticeAlone =
     (readable : Bool) (commands memory sizes : List ℕ)
-    → files_of readable (length commands) sizes ≢ Fit
+    → files_of readable (length commands) sizes ≢ Ok tt
     → printed readable commands memory sizes ≡ notice_of (files_of readable (length commands) sizes)
 
 abbrev pub RunPrinted : Type 0
 RunPrinted =
     (readable : Bool) (commands memory sizes : List ℕ)
-    → files_of readable (length commands) sizes ≡ Fit
+    → files_of readable (length commands) sizes ≡ Ok tt
     → printed readable commands memory sizes ≡ report_from commands false (fresh memory sizes)
 
 -- ---- the line of a call

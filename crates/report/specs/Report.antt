@@ -1,5 +1,5 @@
 -- The report of document 01: the lines of the calls on one input, from any state of the machine, up to the call that ends it.
-use Rattle.std.specs.Prelude.{ℕ, zero, suc, Bool, false, ◌||◌, List, [], ◌∷◌, ◌++◌, ltb, length, replicate, take, get_or, set}
+use Rattle.std.specs.Prelude.{ℕ, zero, suc, Bool, false, ◌||◌, List, [], ◌∷◌, ◌++◌, ltb, length, replicate, take, get_or, set, Result, Ok, Err}
 use Rattle.machine.specs.Machine.{State, state_of, call, Step, step, work, after}
 use Rattle.frame.specs.Bytes.{pick}
 use Rattle.frame.specs.Frames.{sum}
@@ -7,8 +7,8 @@ use Rattle.population.specs.Places.{nowhere}
 use Rattle.population.specs.declared.places.Place.{Place}
 use Rattle.reader.specs.Readers.{fresh_reader}
 use Rattle.report.specs.Lines.{too_long_line, unreadable_line, line_of, ends}
-use Rattle.report.specs.declared.limits.Files.{Files}
-use Rattle.report.specs.declared.limits.Files.TheVariants.{Unreadable, TooLong, Fit}
+use Rattle.report.specs.declared.limits.Unfit.{Unfit}
+use Rattle.report.specs.declared.limits.Unfit.TheVariants.{Unreadable, TooLong}
 
 -- the steps of the calls up to the first that ends the report, or of as many calls as `most` says
 unfoldable pub steps_by : ℕ → List ℕ → State → List Step
@@ -66,14 +66,14 @@ report_of commands memory sizes = pick (too_long (length commands) sizes) too_lo
 
 -- how its files stand before a run. Document 01 counts a file that can't be opened as empty, and says nothing of one that opens and
 -- can't be read to its end: that one is told first, whatever its length and those of the others.
-unfoldable pub files_of : Bool → ℕ → List ℕ → Files
-files_of readable commands sizes = pick readable (pick (too_long commands sizes) TooLong Fit) Unreadable
+unfoldable pub files_of : Bool → ℕ → List ℕ → Result (Unit {0}) Unfit
+files_of readable commands sizes = pick readable (pick (too_long commands sizes) (Err TooLong) (Ok tt)) (Err Unreadable)
 
 -- the only line where they are not run
-unfoldable pub notice_of : Files → List ℕ
-notice_of Unreadable = unreadable_line
-notice_of TooLong = too_long_line
-notice_of Fit = []
+unfoldable pub notice_of : Result (Unit {0}) Unfit → List ℕ
+notice_of (Err Unreadable) = unreadable_line
+notice_of (Err TooLong) = too_long_line
+notice_of (Ok _) = []
 
 unfoldable pub printed : Bool → List ℕ → List ℕ → List ℕ → List ℕ
 printed readable commands memory sizes = pick readable (report_of commands memory sizes) unreadable_line

@@ -1,12 +1,10 @@
 -- What the functions that write the report promise.
-use Rattle.std.specs.Prelude.{ℕ, ◌+◌, ◌-◌, ◌≤◌, ◌<◌, Bool, false, List, ◌≡◌, ltb, length, take, replicate}
-use Rattle.reader.specs.declared.outcome.Outcome.TheVariants.{Answered}
+use Rattle.std.specs.Prelude.{ℕ, ◌-◌, ◌≤◌, ◌<◌, Bool, false, List, ◌≡◌, length, take, replicate}
 use Rattle.machine.specs.Lent.{selection_in}
 use Rattle.machine.specs.Machine.{State, state_of, call, step}
 use Rattle.calls.specs.declared.calling.Called.{Called}
 use Rattle.failures.specs.Records.{blank}
-use Rattle.frame.specs.Putting.{Put}
-use Rattle.frame.specs.Bytes.{pick, byte}
+use Rattle.frame.specs.Bytes.{byte}
 use Rattle.frame.specs.Frames.{written}
 use Rattle.population.specs.declared.places.Place.{Place}
 use Rattle.reader.specs.Readers.{fresh_reader}
@@ -14,31 +12,22 @@ use Rattle.report.specs.Lines.{longest_line, line_for, line_of, ends}
 use Rattle.report.specs.Pieces.{piece_of, left_by, over_by}
 use Rattle.report.specs.Report.{lines_of}
 use Rattle.report.specs.declared.writing.Progress.{Progress}
-use Rattle.report.specs.declared.writing.Room.{Room}
-use Rattle.report.specs.declared.writing.Room.TheVariants.{Enough, TooShort}
 use Rattle.report.specs.declared.writing.Written.{Written}
-
--- a whole line stands at `at`, and the result is the place behind it
-pub record Line (line : List ℕ) (at : ℕ) (before after : List ℕ) (next : ℕ) : Type 0 where
-  pub put : Put line at before after next
-  pub some : at < next
-  pub most : next ≤ at + longest_line
+use Rattle.text.specs.Writing.{Puts}
+use Rattle.text.specs.declared.writer.Writer.{Writer}
 
 -- ---- one call and its line
 
--- a frame that a call answered with has a length, and stands in the output; the line has room
+-- a frame that a call answered with has a length, and stands in the output
 pub record Framed (length most : ℕ) : Type 0 where
   pub some : 0 < length
   pub at_most_136 : length ≤ 136
   pub there : length ≤ most
 
-pub record Printable (r : Called) (output buffer : List ℕ) (at : ℕ) : Type 0 where
-  pub framed : r.outcome ≡ Answered → Framed r.length (length output)
-  pub room : at + longest_line ≤ length buffer
-
-abbrev pub Printed : List ℕ → ℕ → Called → List ℕ → ℕ → List ℕ → List ℕ → ℕ → Type 0
-Printed input cursor r output at before after next =
-    Line (line_for r.outcome (take r.length output) (byte input cursor) r.reader.tally (length input - r.reader.cursor)) at before after next
+-- the line of a call that was made at the cursor
+abbrev pub line_by : List ℕ → ℕ → Called → List ℕ → List ℕ
+line_by input cursor r output =
+    line_for r.outcome (take r.length output) (byte input cursor) r.reader.tally (length input - r.reader.cursor)
 
 -- ---- a piece of the report
 
@@ -49,20 +38,22 @@ state_at memory places tags bytes output p = state_of memory places tags (select
 abbrev pub started : Progress
 started = record { reader = fresh_reader; next = 16; count = 0; records = replicate 8 blank; held = 0; over = false }
 
--- one call is made, its line stands at `at`, and the state is the one that the call leaves
-pub record OneLine (input : List ℕ) (s : State) (at : ℕ) (before after : List ℕ) (next : State) (r : Written) : Type 0 where
-  pub line : Line (line_of input s (step (call input) s)) at before after r.used
+-- one call is made, its line is put, and the state is the one that the call leaves
+pub record OneLine (input : List ℕ) (s : State) (before after : Writer) (next : State) (over : Bool) : Type 0 where
+  pub line : Puts longest_line (line_of input s (step (call input) s)) before after
   pub next_is : next ≡ (step (call input) s).next
-  pub over_is : r.progress.over ≡ ends (step (call input) s).outcome
+  pub over_is : over ≡ ends (step (call input) s).outcome
 
--- a buffer shorter than the longest line is refused
-unfoldable pub room_in : ℕ → Room
-room_in room = pick (ltb room longest_line) TooShort Enough
+-- a buffer shorter than the longest line is refused: nothing changes
+pub record Refused (before after : List ℕ) (s next : State) : Type 0 where
+  pub short : length before < longest_line
+  pub buffer_is : after ≡ before
+  pub next_is : next ≡ s
 
--- What `write` comes to, in any buffer: the lines of the piece stand at its start, and what lies behind them stays. The state is the one after as many
+-- What `write` comes to, in any other buffer: the lines of the piece stand at its start, and what lies behind them stays. The state is the one after as many
 -- calls as the piece has steps.
 pub record Wrote (input before after : List ℕ) (s : State) (over : Bool) (next : State) (r : Written) : Type 0 where
-  pub room_is : r.room ≡ room_in (length before)
+  pub long : longest_line ≤ length before
   pub used_is : r.used ≡ length (lines_of input s (piece_of input (length before) over s))
   pub within : r.used ≤ length before
   pub buffer_is : after ≡ written (lines_of input s (piece_of input (length before) over s)) before

@@ -1,7 +1,8 @@
 // The report, written in pieces: each call of `write` fills a lent buffer with whole lines, and hands back where to go on.
-ghost use Rattle.std.specs.Prelude.{◌≡◌, ◌+◌, ◌≤◌, ◌<◌, length};
+ghost use Rattle.std.specs.Prelude.{◌≡◌, ◌+◌, ◌≤◌, ◌<◌, length, MatchOption};
 ghost use Rattle.report.specs.Lines.{longest_line, ends};
-ghost use Rattle.report.specs.Writing.{started, Printable, Printed, state_at, OneLine, Wrote};
+ghost use Rattle.report.specs.Writing.{started, Framed, line_by, state_at, OneLine, Refused, Wrote};
+ghost use Rattle.text.specs.Writing.{Puts};
 
 use crate::lines::{put_drop, put_frame};
 use calls::calling::Called;
@@ -10,10 +11,9 @@ use failures::record::Record;
 use failures::records::{add_in, remove_in};
 use frame::bytes::byte_at;
 use population::places::Place;
-use reader::outcome::Outcome;
+use reader::outcome::{Outcome, number_of};
 use reader::state::Reader;
-use text::counts::{put_counts, put_refused};
-use text::putting::missing;
+use text::writer::{Writer, missing};
 
 // Where a report stands between two pieces, beside the memory, the output and the selection's bytes: `next` is the number of the first tag that may still be
 // handed out, `count` says how many bytes the selection has, and `held` how many of the records are the list of failures.
@@ -42,17 +42,9 @@ impl Progress {
     }
 }
 
-// Whether the lent buffer has room for the longest line.
-#[derive(Clone, Copy)]
-pub enum Room {
-    Enough,
-    TooShort,
-}
-
 // What a piece comes to: how many bytes stand in the buffer, and where the report goes on.
 #[derive(Clone, Copy)]
 pub struct Written {
-    pub room: Room,
     pub used: usize,
     pub progress: Progress,
 }
@@ -64,45 +56,27 @@ const LONGEST_LINE: usize = 408;
 pub fn is_last(outcome: Outcome) -> bool
     ensures { result ≡ ends outcome }
 {
-    match outcome {
-        Outcome::Answered => false,
-        Outcome::Dropped(_) => false,
-        Outcome::AtEnd => true,
-        Outcome::Incomplete => true,
-        Outcome::PastEnd => true,
-        Outcome::BadImage => true,
-        Outcome::ShortOutput => true,
-        Outcome::FullTally => true,
-        Outcome::FullList => true,
-    }
+    !matches!(outcome, Outcome::Answered | Outcome::Dropped(_))
 }
 
 // The line of a call that was made at `cursor`.
-fn put_line(
-    input: &[u8],
-    cursor: usize,
-    output: &[u8],
-    called: Called,
-    buffer: &mut [u8],
-    at: usize,
-) -> usize
-    requires { Printable called output.now buffer.old at }
-    ensures { Printed input.now cursor called output.now at buffer.old buffer.new result }
+fn put_line(writer: &mut Writer, input: &[u8], cursor: usize, output: &[u8], called: Called)
+    requires { called.outcome ≡ Outcome.Answered → Framed called.length (length output.now) }
+    ensures { Puts longest_line (line_by input.now cursor called output.now) writer.old writer.new }
 {
     let outcome = called.outcome;
-    let length = called.length;
     let reader = called.reader;
-    let left = missing(input.len(), reader.cursor);
     match outcome {
-        Outcome::Answered => put_frame(buffer, at, &output[..length]),
-        Outcome::Dropped(_) => put_drop(buffer, at, byte_at(input, cursor)),
-        Outcome::AtEnd => put_counts(buffer, at, reader.tally, left),
-        Outcome::Incomplete => put_counts(buffer, at, reader.tally, left),
-        Outcome::PastEnd => put_refused(buffer, at, 10),
-        Outcome::BadImage => put_refused(buffer, at, 11),
-        Outcome::ShortOutput => put_refused(buffer, at, 12),
-        Outcome::FullTally => put_refused(buffer, at, 13),
-        Outcome::FullList => put_refused(buffer, at, 14),
+        Outcome::Answered => put_frame(writer, &output[..called.length]),
+        Outcome::Dropped(_) => put_drop(writer, byte_at(input, cursor)),
+        Outcome::AtEnd | Outcome::Incomplete => {
+            writer.put_counts(reader.tally, missing(input.len(), reader.cursor));
+        }
+        Outcome::PastEnd
+        | Outcome::BadImage
+        | Outcome::ShortOutput
+        | Outcome::FullTally
+        | Outcome::FullList => writer.put_refused(number_of(outcome)),
     }
 }
 
@@ -126,22 +100,20 @@ fn with_room(records: [Record; 8], held: usize) -> Roomy
     }
 }
 
-// One call, and its line at `at`.
+// One call, and its line.
 fn write_line(
+    writer: &mut Writer,
     input: &[u8],
     memory: &mut [u8],
     output: &mut [u8],
     selection: &mut [u8; 39],
-    buffer: &mut [u8],
-    at: usize,
     places: [Place; 16],
     tags: usize,
     progress: Progress,
-) -> Written
-    requires { at + longest_line ≤ length buffer.old }
-    ensures { OneLine input.now (state_at memory.old places tags selection.old output.old progress) at
-        buffer.old buffer.new
-        (state_at memory.new places tags selection.new output.new result.progress) result }
+) -> Progress
+    ensures { OneLine input.now (state_at memory.old places tags selection.old output.old progress)
+        writer.old writer.new
+        (state_at memory.new places tags selection.new output.new result) result.over }
 {
     let reader = progress.reader;
     let before = progress.records;
@@ -160,22 +132,18 @@ fn write_line(
         list.held,
     );
     let called = listed.called;
-    let used = put_line(input, reader.cursor, output, called, buffer, at);
+    put_line(writer, input, reader.cursor, output, called);
     let room = list.records;
     let records = add_in(room, listed.at, listed.item);
     let moved = called.reader;
     let outcome = called.outcome;
-    Written {
-        room: Room::Enough,
-        used,
-        progress: Progress {
-            reader: moved,
-            next: called.next,
-            count: called.count,
-            records,
-            held: listed.held,
-            over: is_last(outcome),
-        },
+    Progress {
+        reader: moved,
+        next: called.next,
+        count: called.count,
+        records,
+        held: listed.held,
+        over: is_last(outcome),
     }
 }
 
@@ -190,37 +158,34 @@ pub fn write(
     places: [Place; 16],
     tags: usize,
     progress: Progress,
-) -> Written
-    ensures { Wrote input.now buffer.old buffer.new
+) -> Option<Written>
+    ensures { MatchOption result
+        (Refused buffer.old buffer.new
+        (state_at memory.old places tags selection.old output.old progress)
+        (state_at memory.new places tags selection.new output.new progress))
+        (λ written. Wrote input.now buffer.old buffer.new
         (state_at memory.old places tags selection.old output.old progress) progress.over
-        (state_at memory.new places tags selection.new output.new result.progress) result }
+        (state_at memory.new places tags selection.new output.new written.progress) written) }
 {
-    let mut next = progress;
     if buffer.len() < LONGEST_LINE {
-        return Written {
-            room: Room::TooShort,
-            used: 0,
-            progress: next,
-        };
+        return None;
     }
-    let mut used = 0;
-    while used + LONGEST_LINE <= buffer.len() {
-        if next.over {
-            return Written {
-                room: Room::Enough,
-                used,
-                progress: next,
-            };
-        }
-        let line = write_line(
-            input, memory, output, selection, buffer, used, places, tags, next,
+    let mut writer = Writer { buffer, at: 0 };
+    let mut next = progress;
+    while !next.over && writer.has_room(LONGEST_LINE) {
+        next = write_line(
+            &mut writer,
+            input,
+            memory,
+            output,
+            selection,
+            places,
+            tags,
+            next,
         );
-        used = line.used;
-        next = line.progress;
     }
-    Written {
-        room: Room::Enough,
-        used,
+    Some(Written {
+        used: writer.at,
         progress: next,
-    }
+    })
 }

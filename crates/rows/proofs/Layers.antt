@@ -1,5 +1,5 @@
 -- Texts laid one after the other over rows that stand in a buffer.
-use Prim.Native.Nat.{ℕ, ◌+◌, ◌-◌, ◌*◌, ◌/◌, ◌≤◌, ◌<◌}
+use Prim.Native.Nat.{ℕ, ◌+◌, ◌*◌, ◌/◌, ◌≤◌, ◌<◌}
 use borrow.Author.Tests.{leb-true, le-leb, lt-leb}
 use lib.Dec.{eqb, leb}
 use lib.ListN.{length, length-append}
@@ -13,11 +13,11 @@ use Rattle.frame.specs.Putting.{Put}
 use Rattle.text.proofs.Overlays.{overlay}
 use Rattle.rows.specs.Columns.{boxed_row, plain_row, blank_rows, number_place, numbered}
 use Rattle.rows.specs.Rows.{is_some, cell_place, cell_text, with_cell}
-use Rattle.text.proofs.Laying.{laid_put}
-use Rattle.text.proofs.Puts.{put_join}
-use Rattle.text.proofs.Decimals.{length_decimal}
-use Rattle.text.specs.Digits.{width, decimal}
-use Rattle.text.specs.Laying.{Laid, spaces}
+use Rattle.text.proofs.Writing.{put_behind, more_room}
+use Rattle.text.specs.Digits.{decimal}
+use Rattle.text.specs.Laying.{spaces}
+use Rattle.text.specs.Writing.{Puts}
+use Rattle.text.specs.declared.writer.Writer.{Writer}
 
 -- ---- how long rows are
 
@@ -116,34 +116,19 @@ module _ (at : ℕ) (before : List ℕ) (next : ℕ) where
 
 -- ---- blank rows
 
-module _ (reasons at : ℕ) (before : List ℕ) where
-  pub one_row : (after : List ℕ) (next : ℕ) → reasons ≤ 2 → Put boxed_row at before after next → Put (blank_rows reasons) at before after next
+module _ (reasons : ℕ) {before after : Writer} where
+  pub one_row : reasons ≤ 2 → Puts 100 boxed_row before after → Puts 300 (blank_rows reasons) before after
   unfolding blank_rows
-  one_row after next few put = rw (le-leb reasons 2 few, pick_true) put
+  one_row few first = more_room {most = 100} 300 (omega arith) (rw (le-leb reasons 2 few, pick_true) first)
 
-  pub two_rows : (middle after : List ℕ) (second next : ℕ) → 2 < reasons → reasons ≤ 4 → Put boxed_row at before middle second
-      → Put plain_row second middle after next → Put (blank_rows reasons) at before after next
+  pub two_rows : {middle : Writer} → 2 < reasons → reasons ≤ 4 → Puts 100 boxed_row before middle → Puts 100 plain_row middle after
+      → Puts 300 (blank_rows reasons) before after
   unfolding blank_rows
-  two_rows middle after second next some few first more =
-      rw (lt-leb reasons 2 some, pick_false, le-leb reasons 4 few, pick_true) (put_join boxed_row plain_row at before middle after second next first more)
+  two_rows some few first more =
+      more_room {most = 200} 300 (omega arith) (rw (lt-leb reasons 2 some, pick_false, le-leb reasons 4 few, pick_true) (put_behind first more))
 
-  pub three_rows : (middle later after : List ℕ) (second third next : ℕ) → 4 < reasons → Put boxed_row at before middle second
-      → Put plain_row second middle later third → Put plain_row third later after next → Put (blank_rows reasons) at before after next
+  pub three_rows : {middle later : Writer} → 4 < reasons → Puts 100 boxed_row before middle → Puts 100 plain_row middle later
+      → Puts 100 plain_row later after → Puts 300 (blank_rows reasons) before after
   unfolding blank_rows
-  three_rows middle later after second third next many first more last =
-      let two = put_join boxed_row plain_row at before middle later second third first more in
-      rw (lt-leb reasons 2 (omega arith), pick_false, lt-leb reasons 4 many, pick_false) (put_join (boxed_row ++ plain_row) plain_row at before later after third next two last)
-
--- a piece that was laid stands there, where it has room
-pub as_put : (piece : List ℕ) (at : ℕ) (before after : List ℕ) (result : ℕ) → Laid piece at before after result → at + length piece ≤ length before
-    → Put piece at before after result
-as_put piece at before after result laid room = laid_put piece at before after result room laid
-
--- the number of an item, by its width
-pub number_laid : (n at w place : ℕ) (before after : List ℕ) (result : ℕ) → w ≡ width n → place ≡ 4 - w → Laid (decimal n) (at + place) before after result
-    → at + place + length (decimal n) ≤ length before → after ≡ sets before (at + number_place n) (decimal n)
-unfolding number_place
-number_laid n at w place before after result wide there laid room =
-    let digits : length (decimal n) ≡ w = length_decimal n w wide in
-    let put = as_put (decimal n) (at + place) before after result laid room in
-    put.output_is ∙ ap (λ (k : ℕ). sets before (at + k) (decimal n)) (there ∙ ap (λ (k : ℕ). 4 - k) (sym digits))
+  three_rows many first more last =
+      rw (lt-leb reasons 2 (omega arith), pick_false, lt-leb reasons 4 many, pick_false) (put_behind (put_behind first more) last)

@@ -6,6 +6,7 @@ pub mod Layers
 pub mod Plain
 pub mod Printed
 pub mod Reasons
+pub mod RowPuts
 pub mod RowTexts
 pub mod Ruled
 pub mod Shown

@@ -4,18 +4,21 @@ use borrow.Author.Tests.{eq-eqb, ne_eqb}
 use lib.Dec.{eqb}
 use lib.ListN.{length, length-append}
 use lib.Seq.{length-sets}
+use mathlib.Core.Bool.{not}
 use mathlib.Core.List.{List, ◌++◌}
 use mathlib.Core.Path.{◌≡◌, refl, sym, ◌∙◌}
+use mir.Val.{bool_byte}
 use native.Mathlib.Omega.{arith}
 use Rattle.frame.proofs.Picks.{by_test, pick_true, pick_false}
+use Rattle.frame.proofs.Tests.{either}
 use Rattle.frame.specs.Putting.{Put}
 use Rattle.reader.specs.declared.tally.Tally.{Tally}
-use Rattle.text.proofs.Chains.{laid_by, more_by}
 use Rattle.rows.proofs.Layers.{cell}
 use Rattle.rows.specs.Rows.{is_some, reasons_in, cell_place, cell_text, with_cell, with_reasons}
 use Rattle.text.specs.Digits.{decimal}
-use Rattle.text.specs.Laying.{Laid}
 use Rattle.text.specs.Words.{ascii}
+use Rattle.text.specs.Writing.{Holds}
+use Rattle.text.specs.declared.writer.Writer.{Writer}
 
 pub some_one : (n : ℕ) → is_some n ≤ 1
 unfolding is_some
@@ -28,6 +31,10 @@ none_shown n e = sym (rw (eq-eqb n 0 e, pick_true))
 pub some_shown : (n : ℕ) → (n ≡ 0 → ⊥) → 1 ≡ is_some n
 unfolding is_some
 some_shown n other = sym (rw (ne_eqb n 0 other, pick_false))
+
+pub some_counted : (n : ℕ) → bool_byte (not (eqb n 0)) ≡ is_some n
+unfolding is_some
+some_counted n = either (eqb n 0) (λ e. simp (e, pick_true)) (λ e. simp (e, pick_false))
 
 length_cell : (at shown n : ℕ) (word rows : List ℕ) → length (with_cell at shown n word rows) ≡ length rows
 unfolding with_cell
@@ -101,16 +108,6 @@ a_cell at shown n word before after result some put =
     let there : at + 100 * (shown / 2) + 50 + 18 * (shown % 2) ≡ at + (100 * (shown / 2) + 50 + 18 * (shown % 2)) = omega arith in
     put.output_is ∙ rw (there, ne_eqb n 0 some, pick_false)
 
-pub cell_put : (at shown n : ℕ) (word b0 b1 b2 b3 : List ℕ) (r1 r2 r3 : ℕ) → at + 300 ≤ length b0 → shown ≤ 4 → length word ≤ 11 → length (decimal n) ≤ 20
-    → (n ≡ 0 → ⊥) → Laid (decimal n) (at + 100 * (shown / 2) + 50 + 18 * (shown % 2)) b0 b1 r1 → Laid (ascii " ") r1 b1 b2 r2 → Laid word r2 b2 b3 r3
-    → b3 ≡ with_cell at shown n word b0
-cell_put at shown n word b0 b1 b2 b3 r1 r2 r3 room few letters digits some number space last =
-    let place : ℕ = at + 100 * (shown / 2) + 50 + 18 * (shown % 2) in
-    let within : place + (20 + 1 + 11) ≤ length b0 = omega arith in
-    let first = laid_by 20 (decimal n) place b0 b1 r1 (omega arith) digits number in
-    let second = more_by 20 1 (decimal n) (ascii " ") place b0 b1 b2 r1 r2 (omega arith) (omega arith) first space in
-    a_cell at shown n word b0 b3 r3 some (more_by 21 11 (decimal n ++ ascii " ") word place b0 b2 b3 r2 r3 (omega arith) letters second last).0
-
 pub one_more : (shown n : ℕ) → (n ≡ 0 → ⊥) → shown + 1 ≡ shown + is_some n
 one_more shown n some = omega (arith, some_shown n some)
 
@@ -125,3 +122,18 @@ unfolding with_reasons
 reasons_are at t b0 b1 b2 b3 b4 b5 r1 r2 r3 r4 e1 s1 e2 s2 e3 s3 e4 s4 e5 =
     let one : r1 ≡ is_some t.kind = omega arith in
     e5 ∙ rw (s4, e4, s3, e3, s2, e2, one, e1)
+
+-- cell by cell, by one writer
+pub cells_held : (at : ℕ) (t : Tally) {w0 w1 w2 w3 w4 w5 : Writer} {r1 r2 r3 r4 : ℕ}
+    → Holds (with_cell at 0 t.kind (ascii "wrong type") w0.buffer.now) w0 w1 → r1 ≡ 0 + is_some t.kind
+    → Holds (with_cell at r1 t.long (ascii "too long") w1.buffer.now) w1 w2 → r2 ≡ r1 + is_some t.long
+    → Holds (with_cell at r2 t.check (ascii "wrong check") w2.buffer.now) w2 w3 → r3 ≡ r2 + is_some t.check
+    → Holds (with_cell at r3 t.end (ascii "wrong end") w3.buffer.now) w3 w4 → r4 ≡ r3 + is_some t.end
+    → Holds (with_cell at r4 t.header (ascii "no header") w4.buffer.now) w4 w5
+    → Holds (with_reasons at t w0.buffer.now) w0 w5
+cells_held at t a s1 b s2 c s3 d s4 e =
+    record {
+      same_reference = e.same_reference ∙ d.same_reference ∙ c.same_reference ∙ b.same_reference ∙ a.same_reference;
+      same_length = e.same_length ∙ d.same_length ∙ c.same_length ∙ b.same_length ∙ a.same_length;
+      bytes_are = reasons_are at t _ _ _ _ _ _ _ _ _ _ a.bytes_are s1 b.bytes_are s2 c.bytes_are s3 d.bytes_are s4 e.bytes_are;
+    }

@@ -12,7 +12,7 @@ use Rattle.frame.specs.Putting.{Put}
 use Rattle.naming.specs.Commands.{command_text}
 use Rattle.naming.specs.Errors.{error_text}
 use Rattle.reader.specs.declared.tally.Tally.{Tally}
-use Rattle.text.proofs.Chains.{PutBy, laid_by, more_by}
+use Rattle.text.proofs.Writing.{more_room}
 use Rattle.rows.proofs.Layers.{length_boxed, blank_long, blank_least, blank_most, Based, lay, number}
 use Rattle.rows.proofs.Reasons.{some_one, length_reasons, Short, reasons_put}
 use Rattle.rows.specs.Columns.{boxed_row, blank_rows, number_place, numbered}
@@ -21,42 +21,21 @@ use Rattle.rows.specs.declared.items.Item.{Item}
 use Rattle.tag.specs.declared.commands.Parsed.{Parsed}
 use Rattle.text.proofs.Laying.{within_put}
 use Rattle.text.specs.Digits.{decimal}
-use Rattle.text.specs.Laying.{Laid, LaidWithin}
+use Rattle.text.specs.Laying.{LaidWithin}
 use Rattle.text.specs.Words.{ascii}
+use Rattle.text.specs.Writing.{Puts}
+use Rattle.text.specs.declared.writer.Writer.{Writer}
 
-module _ (at : ℕ) (before : List ℕ) where
-  pub range_one : (first last : ℕ) (after : List ℕ) (next : ℕ) → at + 41 ≤ length before → length (decimal first) ≤ 20 → first ≡ last
-      → Laid (decimal first) at before after next → PutBy 41 (range_text first last) at before after next
-  unfolding range_text
-  range_one first last after next room short same laid =
-      let number = laid_by 20 (decimal first) at before after next (omega arith) short laid in
-      (rw (eq-eqb first last same, pick_true) number.0, omega (arith, number.1))
+-- ---- the texts of the columns
 
-  pub range_two : (first last : ℕ) (middle later after : List ℕ) (second third next : ℕ) → at + 41 ≤ length before → length (decimal first) ≤ 20
-      → length (decimal last) ≤ 20 → (first ≡ last → ⊥) → Laid (decimal first) at before middle second → Laid (ascii "-") second middle later third
-      → Laid (decimal last) third later after next → PutBy 41 (range_text first last) at before after next
-  unfolding range_text
-  range_two first last middle later after second third next room short long other a b c =
-      let number = laid_by 20 (decimal first) at before middle second (omega arith) short a in
-      let dash = more_by 20 1 (decimal first) (ascii "-") at before middle later second third (omega arith) (omega arith) number b in
-      let both = more_by 21 20 (decimal first ++ ascii "-") (decimal last) at before later after third next (omega arith) long dash c in
-      (rw (ne_eqb first last other, pick_false) both.0, both.1)
+pub range_one : (first last : ℕ) {before after : Writer} → first ≡ last → Puts 20 (decimal first) before after → Puts 41 (range_text first last) before after
+unfolding range_text
+range_one first last same digits = more_room {most = 20} 41 (omega arith) (rw (eq-eqb first last same, pick_true) digits)
 
-  module _ (n : ℕ) (middle after : List ℕ) (second next : ℕ) (room : at + 26 ≤ length before) (short : length (decimal n) ≤ 20)
-      (number : Laid (decimal n) at before middle second) where
-    pub bytes_one : n ≡ 1 → Laid (ascii " byte") second middle after next → PutBy 26 (bytes_text n) at before after next
-    unfolding bytes_text
-    bytes_one one word =
-        let digits = laid_by 20 (decimal n) at before middle second (omega arith) short number in
-        let both = more_by 20 5 (decimal n) (ascii " byte") at before middle after second next (omega arith) (omega arith) digits word in
-        (rw (eq-eqb n 1 one, pick_true) both.0, omega (arith, both.1))
-
-    pub bytes_more : (n ≡ 1 → ⊥) → Laid (ascii " bytes") second middle after next → PutBy 26 (bytes_text n) at before after next
-    unfolding bytes_text
-    bytes_more more word =
-        let digits = laid_by 20 (decimal n) at before middle second (omega arith) short number in
-        let both = more_by 20 6 (decimal n) (ascii " bytes") at before middle after second next (omega arith) (omega arith) digits word in
-        (rw (ne_eqb n 1 more, pick_false) both.0, both.1)
+pub range_two : (first last : ℕ) {before after : Writer} → (first ≡ last → ⊥) → Puts 41 (decimal first ++ ascii "-" ++ decimal last) before after
+    → Puts 41 (range_text first last) before after
+unfolding range_text
+range_two first last other both = rw (ne_eqb first last other, pick_false) both
 
 -- ---- the rows of an item
 
@@ -73,7 +52,7 @@ few : (t : Tally) → reasons_in t ≤ 5
 unfolding reasons_in
 few t = omega (arith, some_one t.kind, some_one t.long, some_one t.check, some_one t.end, some_one t.header)
 
-length_drops : (n first last : ℕ) (t : Tally) → length (drop_rows n first last t) ≤ 300
+pub length_drops : (n first last : ℕ) (t : Tally) → length (drop_rows n first last t) ≤ 300
 unfolding drop_rows
 length_drops n first last t =
     let fate : List ℕ = bytes_text (dropped_in t) ++ ascii " dropped" in
@@ -81,7 +60,7 @@ length_drops n first last t =
     let same = length_reasons 0 t (sets (sets (numbered n rows) 7 (range_text first last)) 20 fate) in
     omega (arith, same, same_rows n (range_text first last) fate rows, blank_most (reasons_in t))
 
-length_error : (n first code error : ℕ) (parsed : Parsed) → length (error_row n first code parsed error) ≤ 300
+pub length_error : (n first code error : ℕ) (parsed : Parsed) → length (error_row n first code parsed error) ≤ 100
 unfolding error_row
 length_error n first code error parsed =
     let same = length-sets (sets (sets (numbered n boxed_row) 7 (decimal first)) 20 (command_text code parsed)) 50 (error_text error) in
@@ -91,16 +70,16 @@ pub item_short : (n : ℕ) (item : Item) (code : ℕ) (parsed : Parsed) → leng
 unfolding item_rows
 item_short n item code parsed =
     by_test (λ (rows : List ℕ). length rows ≤ 300) (eqb item.error 0) (λ _. length_drops n item.first item.last item.drops)
-    (λ _. length_error n item.first code item.error parsed)
+    (λ _. omega (arith, length_error n item.first code item.error parsed))
 
-module _ (n : ℕ) (item : Item) (code : ℕ) (parsed : Parsed) (at : ℕ) (before after : List ℕ) (next : ℕ) where
-  pub drops_item : item.error ≡ 0 → Put (drop_rows n item.first item.last item.drops) at before after next → Put (item_rows n item code parsed) at before after next
+module _ (n : ℕ) (item : Item) (code : ℕ) (parsed : Parsed) {before after : Writer} where
+  pub drops_item : item.error ≡ 0 → Puts 300 (drop_rows n item.first item.last item.drops) before after → Puts 300 (item_rows n item code parsed) before after
   unfolding item_rows
   drops_item none put = rw (eq-eqb item.error 0 none, pick_true) put
 
-  pub error_item : (item.error ≡ 0 → ⊥) → Put (error_row n item.first code parsed item.error) at before after next → Put (item_rows n item code parsed) at before after next
+  pub error_item : (item.error ≡ 0 → ⊥) → Puts 100 (error_row n item.first code parsed item.error) before after → Puts 300 (item_rows n item code parsed) before after
   unfolding item_rows
-  error_item some put = rw (ne_eqb item.error 0 some, pick_false) put
+  error_item some put = more_room {most = 100} 300 (omega arith) (rw (ne_eqb item.error 0 some, pick_false) put)
 
 -- ---- what waits
 

@@ -1,56 +1,48 @@
 // The column of the result, for dropped bytes: each reason that some were dropped for, with their number, two to a row.
 ghost use Rattle.std.specs.Prelude.{◌≡◌, ◌+◌, ◌≤◌, length};
-ghost use Rattle.rows.specs.Rows.{is_some, reasons_in, cell_place, with_cell, with_reasons};
+ghost use Rattle.rows.specs.Rows.{is_some, reasons_in, with_cell, with_reasons};
+ghost use Rattle.text.specs.Writing.{Holds};
 
+use crate::columns::RESULT;
 use reader::tally::Tally;
-use text::digits::put_decimal;
-use text::putting::put_text;
+use text::writer::Writer;
 
-fn is_some(n: u32) -> usize
-    ensures value { result ≡ is_some n }
-    ensures upper_bound { result ≤ 1 }
-{
-    if n == 0 {
-        return 0;
-    }
-    1
-}
-
+// How many reasons some bytes were dropped for.
 pub(crate) fn reasons_in(tally: Tally) -> usize
     ensures { result ≡ reasons_in tally }
 {
-    is_some(tally.kind)
-        + is_some(tally.long)
-        + is_some(tally.check)
-        + is_some(tally.end)
-        + is_some(tally.header)
+    usize::from(tally.kind != 0)
+        + usize::from(tally.long != 0)
+        + usize::from(tally.check != 0)
+        + usize::from(tally.end != 0)
+        + usize::from(tally.header != 0)
 }
 
-// The one that is shown behind so many; how many are shown then.
-fn put_cell(buffer: &mut [u8], at: usize, shown: usize, n: u32, word: &[u8]) -> usize
-    requires at_in_bounds { at + 300 ≤ length buffer.old }
+// The one that is shown behind so many, in rows that begin at `start`; how many are shown then.
+fn put_cell(writer: &mut Writer, start: usize, shown: usize, n: u32, word: &[u8]) -> usize
+    requires in_bounds { start + 300 ≤ length writer.old.buffer.now }
     requires shown_bound { shown ≤ 4 }
     requires word_len_bound { length word.now ≤ 11 }
-    ensures buffer_after { buffer.new ≡ with_cell at shown n word.now buffer.old }
+    ensures cell { Holds (with_cell start shown n word.now writer.old.buffer.now) writer.old writer.new }
     ensures value { result ≡ shown + is_some n }
 {
     if n == 0 {
         return shown;
     }
-    let place = at + 100 * (shown / 2) + 50 + 18 * (shown % 2);
-    let second = put_decimal(buffer, place, n as u64);
-    let last = put_text(buffer, second, b" ");
-    put_text(buffer, last, word);
+    writer.at = start + 100 * (shown / 2) + RESULT + 18 * (shown % 2);
+    writer.put_decimal(u64::from(n));
+    writer.put_text(b" ");
+    writer.put_text(word);
     shown + 1
 }
 
-pub(crate) fn put_reasons(buffer: &mut [u8], at: usize, tally: Tally)
-    requires { at + 300 ≤ length buffer.old }
-    ensures { buffer.new ≡ with_reasons at tally buffer.old }
+pub(crate) fn put_reasons(writer: &mut Writer, start: usize, tally: Tally)
+    requires { start + 300 ≤ length writer.old.buffer.now }
+    ensures { Holds (with_reasons start tally writer.old.buffer.now) writer.old writer.new }
 {
-    let first = put_cell(buffer, at, 0, tally.kind, b"wrong type");
-    let second = put_cell(buffer, at, first, tally.long, b"too long");
-    let third = put_cell(buffer, at, second, tally.check, b"wrong check");
-    let fourth = put_cell(buffer, at, third, tally.end, b"wrong end");
-    put_cell(buffer, at, fourth, tally.header, b"no header");
+    let first = put_cell(writer, start, 0, tally.kind, b"wrong type");
+    let second = put_cell(writer, start, first, tally.long, b"too long");
+    let third = put_cell(writer, start, second, tally.check, b"wrong check");
+    let fourth = put_cell(writer, start, third, tally.end, b"wrong end");
+    put_cell(writer, start, fourth, tally.header, b"no header");
 }

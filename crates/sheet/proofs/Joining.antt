@@ -1,21 +1,23 @@
 -- What each call makes of the items, case by case.
-use Prim.Native.Nat.{ℕ, ◌+◌, ◌-◌}
-use borrow.Author.Tests.{lt-ltb, le-ltb, eqb-true, eqb-false, eq-eqb, ne_eqb}
+use Prim.Native.Nat.{ℕ, ◌+◌, ◌<◌, min}
+use borrow.Author.Tests.{eqb-true, eqb-false, eq-eqb, ne_eqb}
 use lib.Dec.{eqb}
-use mathlib.Core.Bool.{true, false, and-false}
+use mathlib.Core.Bool.{true, false}
 use mathlib.Core.List.{List}
-use mathlib.Core.Path.{◌≡◌, ap, sym, ◌∙◌}
+use mathlib.Core.Path.{◌≡◌, refl, ap, sym, ◌∙◌}
 use native.Mathlib.Omega.{arith}
 use Rattle.frame.proofs.Picks.{pick_true, pick_false}
 use Rattle.frame.proofs.Tests.{either}
 use Rattle.frame.specs.Bytes.{byte}
 use Rattle.frame.specs.declared.finding.Reason.{Reason}
 use Rattle.reader.specs.Tallies.{fresh_tally, with_dropped}
-use Rattle.reader.specs.declared.outcome.Outcome.TheVariants.{Answered}
+use Rattle.reader.specs.declared.outcome.Outcome.{Outcome}
+use Rattle.reader.specs.declared.outcome.Outcome.TheVariants.{Answered, AtEnd, Incomplete, Dropped, PastEnd, BadImage, ShortOutput, FullTally, FullList}
 use Rattle.reader.specs.declared.tally.Tally.{Tally}
 use Rattle.sheet.specs.Items.{item_of, items_of, failing, joins, grown, one_more, items_after}
 use Rattle.sheet.specs.declared.items.Failing.TheVariants.{Passed, Error, Drop}
 use Rattle.sheet.specs.declared.items.Items.{Items}
+use Rattle.std.proofs.Common.{◌⊎◌}
 
 -- ---- what a call means
 
@@ -28,34 +30,32 @@ module _ (output : List ℕ) (code : ℕ) (is : code ≡ byte output 2) where
   unfolding failing
   failed error e error_is = ap Error error_is ∙ sym (rw (eq-eqb (byte output 2) 0xFF (sym is ∙ e), pick_true))
 
--- ---- whether a dropped byte belongs to the last item
+-- a call that ended in another way is no failure
+pub none_failed : (output : List ℕ) (o : Outcome)
+    → (o ≡ AtEnd) ⊎ ((o ≡ Incomplete) ⊎ ((o ≡ PastEnd) ⊎ ((o ≡ BadImage) ⊎ ((o ≡ ShortOutput) ⊎ ((o ≡ FullTally) ⊎ (o ≡ FullList))))))
+    → Passed ≡ failing output o
+unfolding failing
+none_failed output AtEnd other = refl
+none_failed output Incomplete other = refl
+none_failed output PastEnd other = refl
+none_failed output BadImage other = refl
+none_failed output ShortOutput other = refl
+none_failed output FullTally other = refl
+none_failed output FullList other = refl
+none_failed output Answered other = grind arith
+none_failed output (Dropped r) other = grind arith
+
+-- ---- one more item
+
+pub saturated : (n more : ℕ) → n < 18446744073709551616 → more ≡ min (n + 1) 18446744073709551615 → more ≡ one_more n
+unfolding one_more
+saturated n more small e =
+    either (eqb n 18446744073709551615) (λ most. rw (most, pick_true) (omega (arith, eqb-true n 18446744073709551615 most)))
+    (λ less. rw (less, pick_false) (omega (arith, eqb-false n 18446744073709551615 less)))
+
+-- ---- the items behind a call
 
 module _ (items : Items) (cursor : ℕ) where
-  pub first_item : items.count ≡ 0 → false ≡ joins items cursor
-  unfolding joins
-  first_item none = sym (rw (le-ltb 0 items.count (omega arith)))
-
-  pub behind_error : (items.last.error ≡ 0 → ⊥) → false ≡ joins items cursor
-  unfolding joins
-  behind_error error = sym (rw (ne_eqb items.last.error 0 error, and-false))
-
-  pub at_start : cursor ≡ 0 → false ≡ joins items cursor
-  unfolding joins
-  at_start e = sym (rw (ne_eqb (items.last.last + 1) cursor (λ same. omega arith), and-false, and-false))
-
-  -- the byte before, where there is one
-  same_place : (last : ℕ) → (cursor ≡ 0 → ⊥) → eqb last (cursor - 1) ≡ eqb (last + 1) cursor
-  same_place last some =
-      either (eqb last (cursor - 1)) (λ yes. yes ∙ sym (eq-eqb (last + 1) cursor (omega (arith, some, eqb-true last (cursor - 1) yes))))
-      (λ no. no ∙ sym (ne_eqb (last + 1) cursor (λ e. eqb-false last (cursor - 1) no (omega arith))))
-
-  pub behind_drop : (items.count ≡ 0 → ⊥) → items.last.error ≡ 0 → (cursor ≡ 0 → ⊥) → eqb items.last.last (cursor - 1) ≡ joins items cursor
-  unfolding joins
-  behind_drop some drops inside =
-      same_place items.last.last inside ∙ sym (rw (lt-ltb 0 items.count (omega (arith, some)), eq-eqb items.last.error 0 drops))
-
-  -- ---- the items behind a call
-
   pub error_item : (count error : ℕ) (fresh : Tally) → count ≡ one_more items.count → fresh ≡ fresh_tally
       → items_of count (item_of cursor cursor error fresh) ≡ items_after items cursor (Error error)
   unfolding items_after

@@ -12,14 +12,15 @@ use Rattle.machine.specs.Lent.{selection_in}
 use Rattle.calls.specs.Calls.{step_of}
 use Rattle.machine.specs.Machine.{state_of, call, Step, step, step_unless, code_at, parameters_at}
 use Rattle.calls.specs.declared.calling.Called.{Called}
-use Rattle.foot.proofs.FootTexts.{ended_by}
-use Rattle.foot.specs.Foot.{end_for, Ended}
+use Rattle.foot.proofs.FootTexts.{ended_put}
+use Rattle.foot.specs.Ending.{Ends}
+use Rattle.foot.specs.Foot.{end_for}
 use Rattle.frame.proofs.Picks.{pick_true, pick_false}
-use Rattle.frame.proofs.Stores.{length_put}
 use Rattle.frame.specs.Bytes.{pick, number, part}
 use Rattle.frame.specs.Putting.{Put}
 use Rattle.report.specs.Lines.{ends}
-use Rattle.text.proofs.Chains.{PutBy, within_by, none_by, join_by}
+use Rattle.text.proofs.Puts.{put_join}
+use Rattle.text.proofs.Writing.{nothing_put, within_puts}
 use Rattle.rows.specs.Rows.{item_rows}
 use Rattle.sheet.specs.Items.{failing, items_after, closes}
 use Rattle.sheet.specs.Sheet.{Standing, standing_of, command_with, command_at, last_rows, items_by, is_told, part_for, teller}
@@ -28,7 +29,8 @@ use Rattle.sheet.specs.declared.items.Failing.{Failing}
 use Rattle.sheet.specs.declared.items.Items.{Items}
 use Rattle.tag.specs.Commands.{parse}
 use Rattle.tag.specs.declared.commands.Parsed.{Parsed}
-use Rattle.text.specs.Laying.{LaidWithin}
+use Rattle.text.specs.Writing.{LaysWithin, Puts}
+use Rattle.text.specs.declared.writer.Writer.{Writer}
 
 -- ---- the command at a place
 
@@ -69,21 +71,21 @@ module _ (input : List ℕ) (cursor code : ℕ) (r : Parsed) where
 
 -- ---- the item that is told
 
-module _ (input : List ℕ) (items : Items) (at : ℕ) (before : List ℕ) where
-  pub not_told : (told : Bool) → told ≡ false → PutBy 300 (pick told (last_rows input items) []) at before before at
-  not_told told never = rw (never, pick_false) (none_by 300 at before)
+module _ (input : List ℕ) (items : Items) (told : Bool) where
+  pub not_told : (writer : Writer) → told ≡ false → Puts 300 (pick told (last_rows input items) []) writer writer
+  not_told writer never = rw (never, pick_false) (nothing_put 300 writer)
 
-  pub no_item : (told : Bool) → told ≡ true → items.count ≡ 0 → PutBy 300 (pick told (last_rows input items) []) at before before at
+  pub no_item : (writer : Writer) → told ≡ true → items.count ≡ 0 → Puts 300 (pick told (last_rows input items) []) writer writer
   unfolding last_rows
-  no_item told yes-told none = rw (yes-told, pick_true, eq-eqb items.count 0 none, pick_true) (none_by 300 at before)
+  no_item writer yes-told none = rw (yes-told, pick_true, eq-eqb items.count 0 none, pick_true) (nothing_put 300 writer)
 
-  pub an_item : (told : Bool) (code : ℕ) (parsed : Parsed) (after : List ℕ) (next : ℕ) → at + 300 ≤ length before → told ≡ true → (items.count ≡ 0 → ⊥)
+  pub an_item : {before after : Writer} (code : ℕ) (parsed : Parsed) → told ≡ true → (items.count ≡ 0 → ⊥)
       → code ≡ code_at input items.last.first → parsed ≡ command_at input items.last.first
-      → LaidWithin 300 (item_rows items.count items.last code parsed) at before after next
-      → PutBy 300 (pick told (last_rows input items) []) at before after next
+      → LaysWithin 300 (item_rows items.count items.last code parsed) before after
+      → Puts 300 (pick told (last_rows input items) []) before after
   unfolding last_rows
-  an_item told code parsed after next room yes-told some coded parsed-is laid =
-      rw (yes-told, pick_true, ne_eqb items.count 0 some, pick_false, ← coded, ← parsed-is) (within_by 300 _ at before after next room laid)
+  an_item code parsed yes-told some coded parsed-is laid =
+      rw (yes-told, pick_true, ne_eqb items.count 0 some, pick_false, ← coded, ← parsed-is) (within_puts laid)
 
 -- ---- one call
 
@@ -92,34 +94,27 @@ module _ (input : List ℕ) (s : Standing) (r : Called) (memory bytes output : L
   made_is : step_of r memory s.bench.places s.bench.tags bytes output ≡ step (call input) s.bench
   made_is = made ∙ room_step false (call input) s.bench refl
 
-  pub one_part : (at : ℕ) (before middle after : List ℕ) (behind next : ℕ) (f : Failing) (over told : Bool) (items : Items) → f ≡ failing output r.outcome
+  pub one_part : {before middle after : Writer} (f : Failing) (over told : Bool) (items : Items) → f ≡ failing output r.outcome
       → over ≡ ends r.outcome → told ≡ (over || closes s.items s.bench.reader.cursor f) → items ≡ items_after s.items s.bench.reader.cursor f
-      → at + 1024 ≤ length before
-      → PutBy 300 (pick told (last_rows input s.items) []) at before middle behind
-      → Ended (end_for input r.reader s.items.count r.outcome) behind middle after next
-      → OnePart input s at before after
-      (standing_of (state_of memory s.bench.places s.bench.tags (selection_in bytes r.count) output r.reader r.next) items)
-      record { used = next; progress = record { reader = r.reader; next = r.next; count = r.count; items = items; over = over } }
+      → before.at + 1024 ≤ length before.buffer.now
+      → Puts 300 (pick told (last_rows input s.items) []) before middle
+      → Ends (end_for input r.reader s.items.count r.outcome) middle after
+      → OnePart input s before after
+      (standing_of (state_of memory s.bench.places s.bench.tags (selection_in bytes r.count) output r.reader r.next) items) over
   unfolding teller part_for is_told items_by
-  one_part at before middle after behind next f over told items f-is over_is told_is items-are room rows end =
+  one_part {before = before} {middle = middle} {after = after} f over told items f-is over_is told_is items-are room rows end =
       let x : Step = step_of r memory s.bench.places s.bench.tags bytes output in
       let known : told ≡ is_told s x = told_is ∙ rw (over_is, f-is) in
-      let ending = ended_by _ behind middle after next (omega (arith, rows.1, length_put _ at before middle behind rows.0)) end in
-      let whole = join_by 300 516 _ _ at before middle after behind next rows ending in
-      let part : Put (part_for input s x) at before after next = rw known at whole.0 in
+      let told_rows = rows.put (omega arith) in
+      let ending = ended_put _ middle.at middle.buffer.now after.buffer.now after.at (omega (arith, told_rows.next_is, rows.short, rows.same_length)) end.ended in
+      let whole = put_join _ _ before.at before.buffer.now middle.buffer.now after.buffer.now middle.at after.at told_rows ending.0 in
+      let part : Put (part_for input s x) before.at before.buffer.now after.buffer.now after.at = rw known at whole in
       record {
-        put = subst (λ (y : Step). Put (part_for input s y) at before after next) made_is part;
-        most = omega (arith, whole.1);
+        same_reference = end.same_reference ∙ rows.same_reference;
+        put = subst (λ (y : Step). Put (part_for input s y) before.at before.buffer.now after.buffer.now after.at) made_is part;
+        most = omega (arith, ending.1, told_rows.next_is, rows.short);
         next_is =
             ap (λ (i : Items). standing_of x.next i) (items-are ∙ ap (items_after s.items s.bench.reader.cursor) f-is)
             ∙ ap (λ (y : Step). standing_of y.next (items_by input s y)) made_is;
         over_is = over_is ∙ ap (λ (y : Step). ends y.outcome) made_is;
       }
-
--- ---- whether it is told
-
-pub told_over : (over : Bool) (items : Items) (cursor : ℕ) (f : Failing) → over ≡ true → true ≡ (over || closes items cursor f)
-told_over over items cursor f last = rw last
-
-pub told_by : (over : Bool) (items : Items) (cursor : ℕ) (f : Failing) (r : Bool) → over ≡ false → r ≡ closes items cursor f → r ≡ (over || closes items cursor f)
-told_by over items cursor f r more e = rw more e

@@ -1,5 +1,5 @@
 -- What the functions that write the sheet promise.
-use Rattle.std.specs.Prelude.{ℕ, ◌+◌, ◌≤◌, false, List, ◌≡◌}
+use Rattle.std.specs.Prelude.{ℕ, ◌+◌, ◌≤◌, Bool, false, List, ◌≡◌}
 use Rattle.machine.specs.Lent.{selection_in}
 use Rattle.machine.specs.Machine.{state_of}
 use Rattle.frame.specs.Putting.{Put}
@@ -8,7 +8,7 @@ use Rattle.reader.specs.Readers.{fresh_reader}
 use Rattle.sheet.specs.Items.{no_items}
 use Rattle.sheet.specs.Sheet.{Standing, standing_of, teller}
 use Rattle.sheet.specs.declared.telling.Progress.{Progress}
-use Rattle.sheet.specs.declared.telling.Written.{Written}
+use Rattle.text.specs.declared.writer.Writer.{Writer}
 
 -- more than the longest part has: the rows of an item, and the foot
 abbrev pub longest_part : ℕ
@@ -22,9 +22,10 @@ abbrev pub standing_at : List ℕ → List Place → ℕ → List ℕ → List �
 standing_at memory places tags bytes output p =
     standing_of (state_of memory places tags (selection_in bytes p.count) output p.reader p.next) p.items
 
--- one call is made, its part stands at `at`, and the sheet stands where the call leaves it
-pub record OnePart (input : List ℕ) (s : Standing) (at : ℕ) (before after : List ℕ) (next : Standing) (r : Written) : Type 0 where
-  pub put : Put ((teller input).part s) at before after r.used
-  pub most : r.used ≤ at + longest_part
+-- one call is made, its part is put at the writer's place, and the sheet stands where the call leaves it
+pub record OnePart (input : List ℕ) (s : Standing) (before after : Writer) (next : Standing) (over : Bool) : Type 0 where
+  pub same_reference : after.buffer.ghost_name ≡ before.buffer.ghost_name
+  pub put : Put ((teller input).part s) before.at before.buffer.now after.buffer.now after.at
+  pub most : after.at ≤ before.at + longest_part
   pub next_is : next ≡ (teller input).next s
-  pub over_is : r.progress.over ≡ (teller input).last s
+  pub over_is : over ≡ (teller input).last s

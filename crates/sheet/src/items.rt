@@ -55,13 +55,13 @@ pub fn failing_of(output: &[u8], outcome: Outcome) -> Failing
             Failing::Error(byte_at(output, layout::PARAMETERS))
         }
         Outcome::Dropped(reason) => Failing::Drop(reason),
-        Outcome::AtEnd => Failing::Passed,
-        Outcome::Incomplete => Failing::Passed,
-        Outcome::PastEnd => Failing::Passed,
-        Outcome::BadImage => Failing::Passed,
-        Outcome::ShortOutput => Failing::Passed,
-        Outcome::FullTally => Failing::Passed,
-        Outcome::FullList => Failing::Passed,
+        Outcome::AtEnd
+        | Outcome::Incomplete
+        | Outcome::PastEnd
+        | Outcome::BadImage
+        | Outcome::ShortOutput
+        | Outcome::FullTally
+        | Outcome::FullList => Failing::Passed,
     }
 }
 
@@ -70,26 +70,14 @@ fn is_joined(items: Items, cursor: usize) -> bool
     ensures { result ≡ joins items cursor }
 {
     let last = items.last;
-    if items.count == 0 {
-        return false;
-    }
-    if last.error != 0 {
-        return false;
-    }
-    if cursor == 0 {
-        return false;
-    }
-    last.last == cursor - 1
+    items.count != 0 && last.error == 0 && cursor != 0 && last.last == cursor - 1
 }
 
 // One more; at the most that the number can hold it stays, so that every function is total. No run comes to that.
 fn one_more(n: usize) -> usize
     ensures { result ≡ one_more n }
 {
-    if n == 18446744073709551615 {
-        return n;
-    }
-    n + 1
+    n.saturating_add(1)
 }
 
 // The items behind a call at `cursor`.

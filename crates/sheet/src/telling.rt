@@ -2,11 +2,11 @@
 ghost use Rattle.std.specs.Prelude.{◌||◌, [], ◌≡◌, ◌+◌, ◌≤◌, length};
 ghost use Rattle.machine.specs.Machine.{code_at};
 ghost use Rattle.frame.specs.Bytes.{pick};
-ghost use Rattle.frame.specs.Putting.{Put};
 ghost use Rattle.sheet.specs.Items.{closes as closes_by};
 ghost use Rattle.sheet.specs.Sheet.{command_with, command_at, last_rows, teller};
 ghost use Rattle.sheet.specs.Writing.{begun, longest_part, standing_at, OnePart};
 ghost use Rattle.text.specs.Telling.{fill, Wrote};
+ghost use Rattle.text.specs.Writing.{Puts};
 
 use crate::items::{Failing, Items, closes, failing_of, items_after};
 use calls::calling::call;
@@ -19,6 +19,7 @@ use report::writing::is_last;
 use rows::row::put_item;
 use tag::commands::Parsed;
 use tag::parsing::parse_command;
+use text::writer::Writer;
 
 // Where a sheet stands between two pieces, beside the memory, the output and the selection's bytes.
 #[derive(Clone, Copy)]
@@ -89,49 +90,39 @@ fn command_at(input: &[u8], cursor: usize) -> Parsed
 }
 
 // The rows of the last item, where there is one and it is told now.
-fn put_last(buffer: &mut [u8], at: usize, input: &[u8], items: Items, told: bool) -> usize
-    requires { at + 300 ≤ length buffer.old }
-    ensures put { Put (pick told (last_rows input.now items) []) at buffer.old buffer.new result }
-    ensures upper_bound { result ≤ at + 300 }
+fn put_last(writer: &mut Writer, input: &[u8], items: Items, told: bool)
+    ensures { Puts 300 (pick told (last_rows input.now items) []) writer.old writer.new }
 {
     let last = items.last;
-    if !told {
-        return at;
+    if told && items.count != 0 {
+        let code = code_at(input, last.first);
+        let parsed = command_at(input, last.first);
+        put_item(writer, items.count, last, code, parsed);
     }
-    if items.count == 0 {
-        return at;
-    }
-    let code = code_at(input, last.first);
-    let parsed = command_at(input, last.first);
-    put_item(buffer, at, items.count, last, code, parsed)
 }
 
 // Whether the last item is told now: the call ends the sheet, or begins another item.
 fn is_told(over: bool, items: Items, cursor: usize, failing: Failing) -> bool
     ensures { result ≡ (over || closes_by items cursor failing) }
 {
-    if over {
-        return true;
-    }
-    closes(items, cursor, failing)
+    over || closes(items, cursor, failing)
 }
 
-// One call, and its part at `at`.
+// One call, and its part.
 fn write_part(
+    writer: &mut Writer,
     input: &[u8],
     memory: &mut [u8],
     output: &mut [u8],
     selection: &mut [u8; 39],
-    buffer: &mut [u8],
-    at: usize,
     places: [Place; 16],
     tags: usize,
     progress: Progress,
-) -> Written
-    requires { at + longest_part ≤ length buffer.old }
-    ensures { OnePart input.now (standing_at memory.old places tags selection.old output.old progress) at
-        buffer.old buffer.new
-        (standing_at memory.new places tags selection.new output.new result.progress) result }
+) -> Progress
+    requires { writer.old.at + longest_part ≤ length writer.old.buffer.now }
+    ensures { OnePart input.now (standing_at memory.old places tags selection.old output.old progress)
+        writer.old writer.new
+        (standing_at memory.new places tags selection.new output.new result) result.over }
 {
     let reader = progress.reader;
     let items = progress.items;
@@ -151,18 +142,15 @@ fn write_part(
     let failing = failing_of(output, outcome);
     let over = is_last(outcome);
     let told = is_told(over, items, reader.cursor, failing);
-    let behind = put_last(buffer, at, input, items, told);
+    put_last(writer, input, items, told);
     let moved = called.reader;
-    let used = put_end(buffer, behind, input, moved, items.count, outcome);
-    Written {
-        used,
-        progress: Progress {
-            reader: moved,
-            next: called.next,
-            count: called.count,
-            items: items_after(items, reader.cursor, failing),
-            over,
-        },
+    put_end(writer, input, moved, items.count, outcome);
+    Progress {
+        reader: moved,
+        next: called.next,
+        count: called.count,
+        items: items_after(items, reader.cursor, failing),
+        over,
     }
 }
 
@@ -183,23 +171,22 @@ pub fn write(
         buffer.old buffer.new result.used result.progress.over
         (standing_at memory.new places tags selection.new output.new result.progress) }
 {
+    let mut writer = Writer { buffer, at: 0 };
     let mut next = progress;
-    let mut used = 0;
-    while LONGEST_PART <= buffer.len() - used {
-        if next.over {
-            return Written {
-                used,
-                progress: next,
-            };
-        }
-        let part = write_part(
-            input, memory, output, selection, buffer, used, places, tags, next,
+    while !next.over && writer.has_room(LONGEST_PART) {
+        next = write_part(
+            &mut writer,
+            input,
+            memory,
+            output,
+            selection,
+            places,
+            tags,
+            next,
         );
-        used = part.used;
-        next = part.progress;
     }
     Written {
-        used,
+        used: writer.at,
         progress: next,
     }
 }

@@ -1,24 +1,19 @@
 -- Laws of the decimal digits: how many there are, by tenths, and that a number of 64 bits has at most twenty.
-use Prim.Native.Nat.{ℕ, zero, suc, ◌+◌, ◌-◌, ◌/◌, ◌%◌, ◌^◌, ◌≤◌, ◌<◌}
+use Prim.Native.Nat.{ℕ, zero, suc, ◌+◌, ◌-◌, ◌*◌, ◌/◌, ◌%◌, ◌^◌, max, ◌≤◌, ◌<◌}
 use borrow.Author.Tests.{lt-ltb, le-ltb, ltb-true, ltb-false}
 use lib.Dec.{ltb}
 use lib.ListN.{length, set, length-append}
 use lib.Seq.{sets}
-use mathlib.Core.Bool.{false}
 use mathlib.Core.List.{List, [], ◌∷◌, ◌++◌}
 use mathlib.Core.Path.{◌≡◌, refl, ap, sym, ◌∙◌}
 use native.Mathlib.Omega.{arith}
-use Rattle.frame.proofs.Copies.{there_reaches}
 use Rattle.frame.proofs.Stores.{set_join}
-use Rattle.frame.specs.Putting.{Put}
 use Rattle.frame.proofs.Picks.{by_test, pick_true, pick_false}
 use Rattle.frame.proofs.Tests.{either}
-use Rattle.frame.specs.Bytes.{pick, reaches}
-use Rattle.text.proofs.Laying.{put_laid, none_laid}
+use Rattle.frame.specs.Bytes.{pick}
 use Rattle.text.proofs.Puts.{set_before}
 use Rattle.text.specs.Claims.{HexDigits, OneDigit, MoreDigits}
 use Rattle.text.specs.Digits.{hex_digit, width_by, width, digits, decimal}
-use Rattle.text.specs.Laying.{Laid}
 
 -- more tenths than needed change nothing
 enough : (f g n : ℕ) → n ≤ f → n ≤ g → width_by f n ≡ width_by g n
@@ -52,6 +47,19 @@ width_most zero n h = omega (arith, width_one n (omega arith))
 width_most (suc k) n h =
     either (ltb n 10) (λ t. omega (arith, width_one n (ltb-true n 10 t)))
     (λ t. omega (arith, width_more n (ltb-false n 10 t), width_most k (n / 10) (omega arith)))
+
+-- a number from one power of ten up to the next
+pub width_between : (k n : ℕ) → 10 ^ k ≤ n → n < 10 * 10 ^ k → width n ≡ k + 1
+width_between zero n least most = width_one n (omega arith)
+width_between (suc k) n least most =
+    omega (arith, width_more n (omega arith), width_between k (n / 10) (omega arith) (omega arith))
+
+-- 0 has the one digit that 1 has
+pub width_positive : (k n m : ℕ) → m ≡ max n 1 → 10 ^ k ≤ m → m < 10 * 10 ^ k → k + 1 ≡ width n
+width_positive k zero m e least most = omega (arith, width_one 0 (omega arith), width_between k m least most, width_one m (omega arith))
+width_positive k (suc n) m e least most =
+    let same : m ≡ suc n = omega arith in
+    sym (width_between k (suc n) (rw same at least) (rw same at most))
 
 pub width_64 : (n : ℕ) → n < 18446744073709551616 → width n ≤ 20
 width_64 n h = width_most 19 n (omega arith)
@@ -88,22 +96,9 @@ pub length_decimal : (n w : ℕ) → w ≡ width n → length (decimal n) ≡ w
 unfolding decimal
 length_decimal n w e = length_digits (width n) n ∙ sym e
 
-decimal_put : (buffer after : List ℕ) (at n w : ℕ) → w ≡ width n → after ≡ sets buffer at (digits w n) → Put (decimal n) at buffer after (at + w)
+pub all_digits : (before : List ℕ) (at n w : ℕ) → w ≡ width n → sets before at (digits w n) ≡ sets before at (decimal n)
 unfolding decimal
-decimal_put buffer after at n w e o =
-    record {
-      output_is = o ∙ ap (λ (k : ℕ). sets buffer at (digits k n)) e;
-      next_is = ap (λ (k : ℕ). at + k) (e ∙ sym (length_digits (width n) n));
-    }
-
-pub decimal_none_laid : (n at w : ℕ) (buffer : List ℕ) → w ≡ width n → reaches buffer at w ≡ false → Laid (decimal n) at buffer buffer at
-decimal_none_laid n at w buffer e none = none_laid (decimal n) at buffer (ap (reaches buffer at) (length_decimal n w e) ∙ none)
-
-pub decimal_laid : (n at w : ℕ) (buffer after : List ℕ) → w ≡ width n → at + w ≤ length buffer → after ≡ sets buffer at (digits w n)
-    → Laid (decimal n) at buffer after (at + w)
-decimal_laid n at w buffer after e room o =
-    put_laid (decimal n) at buffer after (at + w) (ap (reaches buffer at) (length_decimal n w e) ∙ there_reaches buffer at w room)
-    (decimal_put buffer after at n w e o)
+all_digits before at n w e = ap (λ (k : ℕ). sets before at (digits k n)) e
 
 -- a number of 64 bits has room in twenty
 pub decimal_64 : (n : ℕ) → n < 18446744073709551616 → length (decimal n) ≤ 20

@@ -1,11 +1,10 @@
-pub mod Chains
 pub mod Claimed
 pub mod CountPuts
 pub mod Decimals
-pub mod HexPuts
 pub mod Laying
+pub mod Lengths
 pub mod Overlays
 pub mod Puts
-pub mod Spaces
 pub mod Told
 pub mod Written
+pub mod Writing

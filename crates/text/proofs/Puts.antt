@@ -1,15 +1,16 @@
 -- Pieces put one behind the other are one piece.
 use Prim.Native.Nat.{ℕ, suc, ◌+◌, ◌≤◌}
-use lib.ListN.{length, set, length-append}
-use lib.Seq.{sets, set_comm, take-length}
+use borrow.Rule.Slice.PartMut.{mid_of, put_mid}
+use lib.ListN.{length, set, take, drop, replicate, length-append, length-drop}
+use lib.Seq.{sets, sets-eq, set_comm, take-length}
 use mathlib.Core.List.{List, [], ◌∷◌, ◌++◌}
-use mathlib.Core.Path.{◌≡◌, refl, ap, ◌∙◌}
+use mathlib.Core.Path.{◌≡◌, refl, ap, sym, ◌∙◌}
 use native.Mathlib.Omega.{arith}
-use Rattle.frame.proofs.Copies.{copied_is}
 use Rattle.frame.proofs.Stores.{sets_join}
-use Rattle.frame.specs.Bytes.{part}
-use Rattle.frame.specs.Copying.{copied}
 use Rattle.frame.specs.Putting.{Put}
+use Rattle.std.proofs.Common.{length-take-le}
+use Rattle.std.proofs.lemmas.List.{length-replicate}
+use Rattle.std.proofs.lemmas.Slice.{put_mid-paste}
 
 pub put_join : (a b : List ℕ) (at : ℕ) (before middle after : List ℕ) (next last : ℕ) → Put a at before middle next → Put b next middle after last
     → Put (a ++ b) at before after last
@@ -25,16 +26,18 @@ set_before l i [] j v h = refl
 set_before l i (w ∷ vs) j v h =
     ap (λ (k : List ℕ). sets k (suc i) vs) (set_comm l j i v w (λ e. omega arith)) ∙ set_before (set l i w) (suc i) vs j v (omega arith)
 
--- one byte is put by a store
-pub byte_put : (b at : ℕ) (before : List ℕ) → Put (b ∷ []) at before (set before at b) (at + 1)
-byte_put b at before = record { output_is = refl; next_is = refl }
+-- a piece written over as many bytes as it has
+pub part_put : (before new piece : List ℕ) (at k : ℕ) → at + length piece ≤ length before → new ≡ piece → k ≡ length piece
+    → put_mid at k before new ≡ sets before at piece
+part_put before new piece at k room e few =
+    put_mid-paste at k before new piece (length piece) e (sym few) refl
+    ∙ ap (λ (l : List ℕ). take at before ++ l ++ drop (at + length piece) before) (take-length piece)
+    ∙ sym (sets-eq piece before at room)
 
--- a text that is copied whole
-pub text_put : (text buffer after : List ℕ) (at : ℕ) → at + length text ≤ length buffer → after ≡ copied text 0 (length text) buffer at
-    → Put text at buffer after (at + length text)
-unfolding part
-text_put text buffer after at room e =
-    record {
-      output_is = e ∙ copied_is text 0 (length text) buffer at (omega arith) room ∙ ap (λ (l : List ℕ). sets buffer at l) (take-length text);
-      next_is = refl;
-    }
+-- a part of so many bytes that is filled with one
+pub filled_put : (before new : List ℕ) (at n k b : ℕ) → at + n ≤ length before → k ≡ n → new ≡ replicate (length (mid_of at k before)) b
+    → put_mid at k before new ≡ sets before at (replicate n b)
+filled_put before new at n k b room e filled =
+    let all : length (mid_of at k before) ≡ n = length-take-le k (drop at before) (omega (arith, length-drop at before)) ∙ e in
+    part_put before new (replicate n b) at k (omega (arith, length-replicate n b)) (filled ∙ ap (λ (m : ℕ). replicate m b) all)
+    (omega (arith, length-replicate n b))

@@ -4,3 +4,4 @@ pub mod Digits
 pub mod Laying
 pub mod Telling
 pub mod Words
+pub mod Writing

@@ -1,30 +1,15 @@
 // Numbers as text.
 ghost use Rattle.std.specs.Prelude.{◌≡◌, ◌≤◌, ◌<◌};
 ghost use Rattle.text.specs.Digits.{hex_digit, hex_byte, width as width_of, decimal};
-ghost use Rattle.text.specs.Laying.{Laid};
+ghost use Rattle.text.specs.Writing.{Lays, PutsRight};
 
-use frame::bytes::reaches;
+use crate::writer::{Writer, missing};
 
 fn hex_digit(n: u8) -> u8
     requires { n < 16 }
     ensures { result ≡ hex_digit n }
 {
-    if n < 10 {
-        return 48 + n;
-    }
-    55 + n
-}
-
-// A byte in two hex digits.
-pub fn put_hex(buffer: &mut [u8], at: usize, b: u8) -> usize
-    ensures { Laid (hex_byte b) at buffer.old buffer.new result }
-{
-    if !reaches(buffer, at, 2) {
-        return at;
-    }
-    buffer[at] = hex_digit(b / 16);
-    buffer[at + 1] = hex_digit(b % 16);
-    at + 2
+    if n < 10 { 48 + n } else { 55 + n }
 }
 
 // How many decimal digits a number has.
@@ -32,29 +17,40 @@ pub fn width(n: u64) -> usize
     ensures value { result ≡ width_of n }
     ensures upper_bound { result ≤ 20 }
 {
-    let mut left = n;
-    let mut w = 1;
-    while 10 <= left {
-        left = left / 10;
-        w += 1;
-    }
-    w
+    n.max(1).ilog10() as usize + 1
 }
 
-// A number in decimal, from its last digit to its first.
-pub fn put_decimal(buffer: &mut [u8], at: usize, n: u64) -> usize
-    ensures { Laid (decimal n) at buffer.old buffer.new result }
-{
-    let w = width(n);
-    if !reaches(buffer, at, w) {
-        return at;
+impl Writer<'_> {
+    // A byte in two hex digits.
+    pub fn put_hex(&mut self, b: u8)
+        ensures { Lays (hex_byte b) self.old self.new }
+    {
+        self.put_text(&[hex_digit(b / 16), hex_digit(b % 16)]);
     }
-    let mut left = n;
-    let mut i = w;
-    while 0 < i {
-        i -= 1;
-        buffer[at + i] = 48 + (left % 10) as u8;
-        left = left / 10;
+
+    // A number in decimal, from its last digit to its first.
+    pub fn put_decimal(&mut self, n: u64)
+        ensures { Lays (decimal n) self.old self.new }
+    {
+        let w = width(n);
+        if self.has_room(w) {
+            let at = self.at;
+            let mut left = n;
+            for i in (0..w).rev() {
+                self.buffer[at + i] = 48 + (left % 10) as u8;
+                left /= 10;
+            }
+            self.at = at + w;
+        }
     }
-    at + w
+
+    // A number at the right of so many columns, the first of which is at the writer's place.
+    pub fn put_right(&mut self, columns: usize, n: u64)
+        ensures { PutsRight columns n self.old self.new }
+    {
+        if self.has_room(columns) {
+            self.at += missing(columns, width(n));
+            self.put_decimal(n);
+        }
+    }
 }

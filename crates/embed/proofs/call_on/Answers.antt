@@ -45,18 +45,6 @@ loop-i-preserved c =
           ∙ placed_more numbers at.i;
     }
 
-pub bounds-state-10 : goal.bounds-state-10
-bounds-state-10 c = omega (arith, c.requires.thirteen)
-
-pub bounds-state-11 : goal.bounds-state-11
-bounds-state-11 c = omega (arith, c.requires.thirteen)
-
-pub bounds-state-12 : goal.bounds-state-12
-bounds-state-12 c = omega (arith, c.requires.thirteen)
-
-pub tell-requires : goal.tell-requires
-tell-requires c = c.requires.thirteen
-
 pub returns : goal.returns
 unfolding listed_by
 returns c =
@@ -71,5 +59,5 @@ returns c =
     packed_step a.input.now a.memory.now a.output.now a.numbers.now a.selection.now a.records.now a.state.now a.reader _ c.used_of-i-end.ensures
     c.loop-i.places (c.loop-i.invariant.row_is ∙ ap (placed _) all) _ _ _ _ c.call_beside-listed.ensures _ _ _ c.tell.ensures.0 list
     (c.tell.ensures.1
-    ∙ stored_is a.input.now a.memory.now a.output.now c.loop-i.places _ _ a.selection.now a.state.now a.reader _ _ _ _ _ c.requires.thirteen
+    ∙ stored_is a.input.now a.memory.now a.output.now c.loop-i.places _ _ a.selection.now a.state.now a.reader _ _ _ _ _ c.told-state
     c.requires.fits c.call_beside-listed.ensures)

@@ -6,21 +6,6 @@ use Rattle.frame.specs.declared.finding.Reason.TheVariants.{NoHeader, WrongType,
 use Rattle.embed.specs.Kept.{count_for, place_for}
 use Rattle.embed.proofs.keep_drop.Goals as goal
 
-pub bounds-state-3 : goal.bounds-state-3
-bounds-state-3 c = simp length-set (omega (arith, c.requires))
-
-pub bounds-state-4 : goal.bounds-state-4
-bounds-state-4 c = simp length-set (omega (arith, c.requires))
-
-pub bounds-state-5 : goal.bounds-state-5
-bounds-state-5 c = simp length-set (omega (arith, c.requires))
-
-pub bounds-state-6 : goal.bounds-state-6
-bounds-state-6 c = simp length-set (omega (arith, c.requires))
-
-pub bounds-state-7 : goal.bounds-state-7
-bounds-state-7 c = simp length-set (omega (arith, c.requires))
-
 pub returns-in-NoHeader : goal.returns-in-NoHeader
 unfolding count_for place_for
 returns-in-NoHeader c =

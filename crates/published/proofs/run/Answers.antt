@@ -6,10 +6,10 @@ use Rattle.published.proofs.run.Goals as goal
 
 pub slice_bounds-line-end : goal.slice_bounds-line-end
 slice_bounds-line-end c =
-    let made = c.write-written in
-    omega (arith, made.ensures.within, made.auto.buffer)
+    let made = c.write in
+    omega (arith, c.in-Some.ensures.within, made.auto.buffer)
 
 pub slice_bounds-write_all-end : goal.slice_bounds-write_all-end
 slice_bounds-write_all-end c =
-    let made = c.write-written in
-    sym (length-take-le _ _ (omega (arith, made.ensures.within, made.auto.buffer)))
+    let made = c.write in
+    sym (length-take-le _ _ (omega (arith, c.in-Some.ensures.within, made.auto.buffer)))

@@ -1,10 +1,6 @@
 -- `lay_out` meets its contract: each turn gives one more tag its place, behind those before it.
-use Prim.Native.Nat.{◌-◌}
 use Rattle.console.proofs.Placing.{LaidOut}
 use Rattle.console.proofs.places.lay_out.Given as goal
 
 abbrev pub invariant-loop-i : goal.invariant-loop-i
 invariant-loop-i l = LaidOut l.sizes l.placed l.places l.from l.i
-
-abbrev pub decreases-loop-i : goal.decreases-loop-i
-decreases-loop-i l = l.placed - l.i

@@ -1,47 +1,50 @@
--- `commands_in` meets its contract. The loop's invariant: so many are counted, and those from the cursor on are still to come.
+-- `commands_in` meets its contract. The loop's invariant: so many are counted, and those in the rest are still to come.
+use Prim.Native.Nat.{◌+◌}
+use mathlib.Core.Path.{sym, ◌∙◌}
 use native.Mathlib.Omega.{arith}
-use Rattle.head.proofs.Taken.{reach, none_more, one_dropped, one_taken, none_left}
+use Rattle.frame.proofs.Accepting.{accepted}
+use Rattle.frame.specs.Formats.{commands}
+use Rattle.head.proofs.Taken.{none_more, drop_there, after_drop, after_accept, length_left}
 use Rattle.head.proofs.commands.commands_in.Goals as goal
-use Rattle.head.proofs.commands.commands_in.Goals.{then-bytes-gt1, else-bytes-gt1}
 
-pub loop-at-init : goal.loop-at-init
-loop-at-init c = (omega arith, (omega arith, omega arith))
+pub returns-in-End : goal.returns-in-End
+returns-in-End c = omega (arith, c.loop-rest.invariant.counted, none_more c.loop-rest.rest.now c.find.ensures c.in-End.is)
 
-pub returns-then-bytes-eq0 : goal.returns-then-bytes-eq0
-returns-then-bytes-eq0 c =
-    let l = c.loop-at in
-    omega (arith, l.invariant.1.1, none_more c.args.input.now l.at _ c.bytes_taken-bytes.ensures.value c.if-bytes-eq0.true)
+pub slice_bounds-rest-count : goal.slice_bounds-rest-count
+slice_bounds-rest-count c = drop_there _ _ (sym c.find.ensures ∙ c.in-Drop.is)
 
-pub overflow_add-at : goal.overflow_add-at
-overflow_add-at c =
-    omega (arith, reach c.args.input.now c.loop-at.at _ c.loop-at.invariant.0 c.bytes_taken-bytes.ensures.upper_bound)
+pub slice_bounds-rest-start : goal.slice_bounds-rest-start
+slice_bounds-rest-start c = drop_there _ _ (sym c.find.ensures ∙ c.in-Drop.is)
 
-pub loop-at-smaller : goal.loop-at-smaller
-loop-at-smaller c =
-    omega (
-      arith,
-      c.if-bytes-eq0.false,
-      reach c.args.input.now c.loop-at.at _ c.loop-at.invariant.0 c.bytes_taken-bytes.ensures.upper_bound,
-    )
+pub loop-rest-smaller-in-Drop : goal.loop-rest-smaller-in-Drop
+loop-rest-smaller-in-Drop c =
+    omega (arith, drop_there _ _ (sym c.find.ensures ∙ c.in-Drop.is), length_left c.loop-rest.rest.now 1)
 
-pub loop-at-preserved : goal.loop-at-preserved
-loop-at-preserved c =
-    let input = c.args.input.now in
-    let so_far = c.loop-at.invariant.1 in
-    let is = c.bytes_taken-bytes.ensures.value in (
-      reach input c.loop-at.at _ c.loop-at.invariant.0 c.bytes_taken-bytes.ensures.upper_bound,
-      elim c.if-bytes-gt1.branch [
-        | then-bytes-gt1 w ↦ (
-          omega (arith, so_far.0, w.if-bytes-gt1.true, w.n-is),
-          omega (arith, so_far.1, w.n-is, one_taken input c.loop-at.at _ is w.if-bytes-gt1.true),
-        )
-        | else-bytes-gt1 w ↦ (
-          omega (arith, so_far.0, w.n-is),
-          omega (arith, so_far.1, w.n-is, one_dropped input c.loop-at.at _ is (omega (arith, c.if-bytes-eq0.false, w.if-bytes-gt1.false))),
-        )
-      ],
-    )
+pub loop-rest-preserved-in-Drop : goal.loop-rest-preserved-in-Drop
+loop-rest-preserved-in-Drop c =
+    let rest = c.loop-rest.rest.now in
+    let there = drop_there _ _ (sym c.find.ensures ∙ c.in-Drop.is) in record {
+      few = omega (arith, there, c.loop-rest.invariant.few, length_left rest 1);
+      counted = omega (arith, c.loop-rest.invariant.counted, after_drop rest _ (sym c.find.ensures ∙ c.in-Drop.is));
+    }
 
-pub returns : goal.returns
-returns c =
-    omega (arith, c.loop-at.invariant.1.1, none_left c.args.input.now c.loop-at.at (omega arith))
+pub overflow_add-rest : goal.overflow_add-rest
+overflow_add-rest c = omega (arith, (accepted commands _ _ (sym c.find.ensures ∙ c.in-Accept.is)).fits)
+
+pub slice_bounds-rest-count-in-Accept : goal.slice_bounds-rest-count-in-Accept
+slice_bounds-rest-count-in-Accept c = (accepted commands _ _ (sym c.find.ensures ∙ c.in-Accept.is)).fits
+
+pub slice_bounds-rest-start-in-Accept : goal.slice_bounds-rest-start-in-Accept
+slice_bounds-rest-start-in-Accept c = (accepted commands _ _ (sym c.find.ensures ∙ c.in-Accept.is)).fits
+
+pub loop-rest-smaller : goal.loop-rest-smaller
+loop-rest-smaller c =
+    omega (arith, (accepted commands _ _ (sym c.find.ensures ∙ c.in-Accept.is)).fits, length_left c.loop-rest.rest.now (7 + c.in-Accept.pl))
+
+pub loop-rest-preserved : goal.loop-rest-preserved
+loop-rest-preserved c =
+    let rest = c.loop-rest.rest.now in
+    let there = (accepted commands _ _ (sym c.find.ensures ∙ c.in-Accept.is)).fits in record {
+      few = omega (arith, there, c.loop-rest.invariant.few, length_left rest (7 + c.in-Accept.pl));
+      counted = omega (arith, c.loop-rest.invariant.counted, after_accept rest _ (sym c.find.ensures ∙ c.in-Accept.is));
+    }

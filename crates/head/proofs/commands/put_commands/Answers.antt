@@ -1,22 +1,12 @@
 -- `put_commands` meets its contract: the number, and the word for it.
 use native.Mathlib.Omega.{arith}
-use Rattle.head.proofs.FilePuts.{commands_put, laid_one, laid_more}
+use Rattle.head.specs.Commands.{commands_text}
+use Rattle.text.proofs.Lengths.{either_short}
+use Rattle.text.proofs.Writing.{decimal_put, word_put, put_behind, text_put}
 use Rattle.head.proofs.commands.put_commands.Goals as goal
 
-pub returns-then-n-eq1 : goal.returns-then-n-eq1
-returns-then-n-eq1 c =
-    record {
-      put = (commands_put _ _ _ _ _ _ _ _ _ (omega (arith, c.ranges.n)) c.requires c.put_text-number.ensures c.put_decimal-last.ensures
-          (laid_one _ _ _ _ _ _ _ c.if-n-eq1.true c.put_text.ensures)).0;
-      upper_bound = (commands_put _ _ _ _ _ _ _ _ _ (omega (arith, c.ranges.n)) c.requires c.put_text-number.ensures c.put_decimal-last.ensures
-          (laid_one _ _ _ _ _ _ _ c.if-n-eq1.true c.put_text.ensures)).1;
-    }
-
 pub returns : goal.returns
+unfolding commands_text
 returns c =
-    record {
-      put = (commands_put _ _ _ _ _ _ _ _ _ (omega (arith, c.ranges.n)) c.requires c.put_text-number.ensures c.put_decimal-last.ensures
-          (laid_more _ _ _ _ _ _ _ c.if-n-eq1.false c.put_text-2.ensures)).0;
-      upper_bound = (commands_put _ _ _ _ _ _ _ _ _ (omega (arith, c.ranges.n)) c.requires c.put_text-number.ensures c.put_decimal-last.ensures
-          (laid_more _ _ _ _ _ _ _ c.if-n-eq1.false c.put_text-2.ensures)).1;
-    }
+    put_behind (put_behind (word_put c.put_text.ensures) (decimal_put (omega arith) c.put_decimal.ensures))
+    (text_put 15 c.word_for.ensures (either_short _ 15 _ _ (omega arith) (omega arith)) c.put_text-2.ensures)

@@ -1,10 +1,8 @@
 -- `put_bits` meets its contract: two bytes in hex.
-use Rattle.naming.proofs.CommandTexts.{bits_put}
+use Rattle.naming.specs.Commands.{bits_text}
+use Rattle.text.proofs.Writing.{hex_put, put_behind}
 use Rattle.naming.proofs.commands.put_bits.Goals as goal
 
 pub returns : goal.returns
-returns c =
-    record {
-      put = (bits_put _ _ _ _ _ _ _ c.requires c.put_hex-low.ensures c.put_hex.ensures).0;
-      value = (bits_put _ _ _ _ _ _ _ c.requires c.put_hex-low.ensures c.put_hex.ensures).1;
-    }
+unfolding bits_text
+returns c = put_behind (hex_put _ c.put_hex.ensures) (hex_put _ c.put_hex-2.ensures)

@@ -1,4 +1,4 @@
--- `judge` meets its contract: readable comes first, then the lengths.
+-- `judge` meets its contract: what can't be read comes first.
 use Rattle.report.proofs.NotRun.{not_readable, readable_long, readable_fit}
 use Rattle.report.proofs.limits.judge.Goals as goal
 

@@ -1,19 +1,11 @@
--- `write_notice` meets its contract: the line of each case.
-use Rattle.report.proofs.NotRun.{told, told_as, none_told}
-use Rattle.report.specs.Lines.{too_long_line, unreadable_line}
-use Rattle.report.specs.Report.{notice_of}
-use Rattle.report.specs.declared.limits.Files.TheVariants.{Unreadable, TooLong, Fit}
+-- `write_notice` meets its contract: the line of each case, and none of files that fit.
 use mathlib.Core.Path.{refl}
+use Rattle.std.proofs.Common.{rules}
+use Rattle.report.proofs.NotRun.{told, fit_told}
 use Rattle.report.proofs.limits.write_notice.Goals as goal
 
-pub returns-in-Unreadable : goal.returns-in-Unreadable
-unfolding notice_of unreadable_line
-returns-in-Unreadable c = told_as _ Unreadable _ _ _ _ c.in-Unreadable.is refl (told _ _ _ _ c.put_text.ensures)
+pub returns-in_default : goal.returns-in_default
+returns-in_default c = fit_told _ _ c.in_default.not-Err
 
-pub returns-in-TooLong : goal.returns-in-TooLong
-unfolding notice_of too_long_line
-returns-in-TooLong c = told_as _ TooLong _ _ _ _ c.in-TooLong.is refl (told _ _ _ _ c.put_text-in-TooLong.ensures)
-
-pub returns-in-Fit : goal.returns-in-Fit
-unfolding notice_of
-returns-in-Fit c = told_as _ Fit _ _ _ _ c.in-Fit.is refl (none_told _)
+pub returns : goal.returns
+returns c = rw (c.in-Err.is, ← c.line.ensures) (told _ _ _ refl (search rules) c.put_text.ensures)

@@ -1,17 +1,8 @@
 -- `put_drop` meets its contract: the word, the byte and the newline.
-use native.Mathlib.Omega.{arith}
-use Rattle.report.proofs.LinePuts.{word_put, drop_put}
-use Rattle.report.specs.Lines.{drop_word}
+use Rattle.report.specs.Lines.{drop_word, drop_line}
+use Rattle.text.proofs.Writing.{word_put, hex_put, put_behind}
 use Rattle.report.proofs.lines.put_drop.Goals as goal
 
-pub put_byte-requires : goal.put_byte-requires
-unfolding drop_word
-put_byte-requires c =
-    let word = word_put _ _ _ _ c.put_text-next.ensures (omega arith) in
-    omega (arith, word.next_is)
-
 pub returns : goal.returns
-unfolding drop_word
-returns c =
-    let word = word_put _ _ _ _ c.put_text-next.ensures (omega arith) in
-    drop_put _ _ _ _ _ _ _ word c.put_byte.ensures
+unfolding drop_word drop_line
+returns c = put_behind (word_put c.put_text.ensures) (put_behind (hex_put _ c.put_hex.ensures) (word_put c.put_text-2.ensures))

@@ -1,28 +1,23 @@
 -- `put_frame` meets its contract. The loop's invariant: the bytes put, with those that are still to come, are the whole line.
-use mathlib.Core.Path.{refl, ◌∙◌}
+use Prim.Native.Nat.{◌+◌}
 use native.Mathlib.Omega.{arith}
-use Rattle.frame.proofs.Stores.{length_put}
-use Rattle.report.proofs.LinePuts.{hex_next, frame_more, frame_whole}
+use Rattle.report.proofs.LinePuts.{separator_within, separator_last, one_more, whole_frame, put_same}
 use Rattle.report.proofs.lines.put_frame.Goals as goal
-
-pub loop-i-init : goal.loop-i-init
-loop-i-init c = (omega arith, (omega arith, (refl, refl)))
+use Rattle.report.proofs.lines.put_frame.Goals.{then-i-frame, else-i-frame}
+use Rattle.text.proofs.Writing.{word_put}
 
 pub loop-i-preserved : goal.loop-i-preserved
 loop-i-preserved c =
-    let l = c.loop-i in
-    let put = c.put_byte-next.ensures in
-    let test = c.loop-i-test.true in
-    let separated = c.behind.ensures in (
-      omega arith,
-      (
-        omega (arith, l.invariant.1.0, hex_next _ _ _ _ _ _ put),
-        (omega (arith, l.invariant.1.1.0, length_put _ _ _ _ _ put), frame_more _ _ _ _ _ _ _ test separated put ∙ l.invariant.1.1.1),
-      ),
-    )
+    let frame = c.args.frame.now in
+    let i = c.loop-i.i in
+    elim c.if-i-frame.branch [
+      | then-i-frame w ↦
+          one_more frame i 32 c.loop-i-test.true (separator_within frame (i + 1) w.if-i-frame.true) c.loop-i.invariant c.put_hex.ensures
+          (put_same w.writer-is (word_put w.put_text.ensures))
+      | else-i-frame w ↦
+          one_more frame i 10 c.loop-i-test.true (separator_last frame (i + 1) w.if-i-frame.false) c.loop-i.invariant c.put_hex.ensures
+          (put_same w.writer-is (word_put w.put_text-else-i-frame.ensures))
+    ]
 
 pub returns : goal.returns
-returns c =
-    let l = c.loop-i in
-    let pre = c.requires.frame_length in
-    frame_whole _ _ _ _ _ _ pre.0 pre.1 c.loop-i-test.false l.invariant.0 l.invariant.1.0 l.invariant.1.1.1
+returns c = whole_frame c.args.frame.now (omega arith) c.loop-i.invariant

@@ -1,42 +1,32 @@
 -- `write` meets its contract. The loop's invariant: what was put, and what the rest of the buffer takes from the state reached, is the
 -- piece.
 use mathlib.Core.Path.{refl, ◌∙◌}
-use native.Mathlib.Omega.{arith}
-use Rattle.report.proofs.Pieces.{going, goes, falls, too_short, filled, ended}
+use Rattle.std.proofs.Common.{rules}
+use Rattle.report.proofs.Pieces.{going, goes, falls, filled, ended}
 use Rattle.report.proofs.writing.write.Goals as goal
+use Rattle.report.proofs.writing.write.Goals.{then-loop-next-test+else-has_room, else-loop-next-test}
 
-pub returns-then-buffer-lt-LONGEST_LINE : goal.returns-then-buffer-lt-LONGEST_LINE
-returns-then-buffer-lt-LONGEST_LINE c = too_short _ _ _ _ c.if-buffer-lt-LONGEST_LINE.true
+pub loop-next-init : goal.loop-next-init
+loop-next-init c = record { same_reference = refl; memory_length = refl; output_length = refl; going = going _ _ _ _ }
 
-pub loop-used-init : goal.loop-used-init
-loop-used-init c = (refl, (refl, going _ _ _ _))
+pub loop-next-smaller : goal.loop-next-smaller
+loop-next-smaller c = falls _ _ _ _ _ (search rules) c.write_line-next.ensures
 
-pub overflow_add-used : goal.overflow_add-used
-overflow_add-used c = omega (arith, c.loop-used.invariant.1.1.within, c.well_formed.1.1.1.1.0)
-
-pub returns-then-next : goal.returns-then-next
-returns-then-next c =
-    let l = c.loop-used in
-    ended _ _ _ _ _ _ _ l.next c.if-buffer-lt-LONGEST_LINE.false l.invariant.1.1 c.if-next.true
-
-pub write_line-line-requires : goal.write_line-line-requires
-write_line-line-requires c = c.loop-used-test.true
-
-pub loop-used-smaller : goal.loop-used-smaller
-loop-used-smaller c =
-    falls _ _ _ _ _ _ _ _ c.if-next.false c.write_line-line.ensures
-
-pub loop-used-preserved : goal.loop-used-preserved
-loop-used-preserved c =
-    let l = c.loop-used in (
-      c.write_line-line.auto.memory ∙ l.invariant.0,
-      (
-        c.write_line-line.auto.output ∙ l.invariant.1.0,
-        goes _ _ _ _ _ _ _ _ _ _ _ l.invariant.1.1 c.if-next.false c.loop-used-test.true c.write_line-line.ensures,
-      ),
-    )
+pub loop-next-preserved : goal.loop-next-preserved
+loop-next-preserved c =
+    let l = c.loop-next in
+    let line = c.write_line-next in
+    record {
+      same_reference = line.ensures.line.same_reference ∙ l.invariant.same_reference;
+      memory_length = line.auto.memory ∙ l.invariant.memory_length;
+      output_length = line.auto.output ∙ l.invariant.output_length;
+      going = goes _ _ _ _ _ _ _ _ l.invariant.going (search rules) (search rules) line.ensures;
+    }
 
 pub returns : goal.returns
 returns c =
-    let l = c.loop-used in
-    filled _ _ _ _ _ _ _ l.next c.if-buffer-lt-LONGEST_LINE.false l.invariant.1.1 c.loop-used-test.false
+    let l = c.loop-next in
+    elim c.loop-next-test.branch [
+      | then-loop-next-test+else-has_room w ↦ filled _ _ _ _ _ _ _ _ _ c.if-buffer-lt-LONGEST_LINE.false (search rules) l.invariant.going (search rules)
+      | else-loop-next-test w ↦ ended _ _ _ _ _ _ _ _ _ c.if-buffer-lt-LONGEST_LINE.false (search rules) l.invariant.going (search rules)
+    ]

@@ -9,12 +9,15 @@ use Rattle.report.proofs.Pieces.{Going}
 use Rattle.report.specs.Writing.{state_at}
 use Rattle.report.proofs.writing.write.Given as goal
 
-abbrev pub invariant-loop-used : goal.invariant-loop-used
-invariant-loop-used l =
-    (length l.memory ≡ length l.initial.memory)
-    × ((length l.output ≡ length l.initial.output)
-    × Going l.input l.initial.buffer (state_at l.initial.memory l.places l.tags l.initial.selection l.initial.output l.initial.next) l.initial.next.over l.buffer l.used (state_at l.memory l.places l.tags l.selection l.output l.next) l.next.over)
+abbrev pub invariant-loop-next : goal.invariant-loop-next
+invariant-loop-next l =
+    record {
+      same_reference : l.writer.buffer.ghost_name ≡ l.initial.writer.buffer.ghost_name;
+      memory_length : length l.memory ≡ length l.initial.memory;
+      output_length : length l.output ≡ length l.initial.output;
+      going : Going l.input l.initial.writer.buffer.now (state_at l.initial.memory l.places l.tags l.initial.selection l.initial.output l.initial.next) l.initial.next.over l.writer.buffer.now l.writer.at (state_at l.memory l.places l.tags l.selection l.output l.next) l.next.over;
+    }
 
-abbrev pub decreases-loop-used : goal.decreases-loop-used
-decreases-loop-used l =
+abbrev pub decreases-loop-next : goal.decreases-loop-next
+decreases-loop-next l =
     pick l.next.over 0 (suc (work l.input (state_at l.memory l.places l.tags l.selection l.output l.next)))

@@ -1,6 +1,6 @@
 -- `failing_of` meets its contract: one answer for each outcome.
 use mathlib.Core.Path.{ap, sym, ◌∙◌}
-use Rattle.sheet.proofs.Joining.{passed, failed}
+use Rattle.sheet.proofs.Joining.{passed, failed, none_failed}
 use Rattle.sheet.specs.Items.{failing}
 use Rattle.sheet.proofs.items.failing_of.Goals as goal
 
@@ -15,29 +15,4 @@ unfolding failing
 returns-in-Dropped c = rw c.in-Dropped.is
 
 pub returns-in-AtEnd : goal.returns-in-AtEnd
-unfolding failing
-returns-in-AtEnd c = rw c.in-AtEnd.is
-
-pub returns-in-Incomplete : goal.returns-in-Incomplete
-unfolding failing
-returns-in-Incomplete c = rw c.in-Incomplete.is
-
-pub returns-in-PastEnd : goal.returns-in-PastEnd
-unfolding failing
-returns-in-PastEnd c = rw c.in-PastEnd.is
-
-pub returns-in-BadImage : goal.returns-in-BadImage
-unfolding failing
-returns-in-BadImage c = rw c.in-BadImage.is
-
-pub returns-in-ShortOutput : goal.returns-in-ShortOutput
-unfolding failing
-returns-in-ShortOutput c = rw c.in-ShortOutput.is
-
-pub returns-in-FullTally : goal.returns-in-FullTally
-unfolding failing
-returns-in-FullTally c = rw c.in-FullTally.is
-
-pub returns-in-FullList : goal.returns-in-FullList
-unfolding failing
-returns-in-FullList c = rw c.in-FullList.is
+returns-in-AtEnd c = none_failed _ _ c.in-AtEnd.is

@@ -1,26 +1,14 @@
 -- `put_last` meets its contract: nothing, or the rows of the last item.
-use native.Mathlib.Omega.{arith}
-use borrow.Author.Tests.{not-true, not-false}
 use Rattle.sheet.proofs.Parts.{not_told, no_item, an_item}
 use Rattle.sheet.proofs.telling.put_last.Goals as goal
+use Rattle.sheet.proofs.telling.put_last.Goals.{else-told-via-then-told+else-items-ne0, else-told-via-else-told}
 
-pub returns-then-not-told : goal.returns-then-not-told
-returns-then-not-told c =
-    record {
-      put = (not_told _ _ _ _ _ (not-true _ c.if-not-told.true-raw)).0;
-      upper_bound = omega arith;
-    }
+pub returns-then-items-ne0 : goal.returns-then-items-ne0
+returns-then-items-ne0 c = an_item _ _ _ _ _ c.if-told.true c.if-items-ne0.true c.code_at-code.ensures c.command_at-parsed.ensures c.put_item.ensures
 
-pub returns-then-items-eq0 : goal.returns-then-items-eq0
-returns-then-items-eq0 c =
-    record {
-      put = (no_item _ _ _ _ _ (not-false _ c.if-not-told.false-raw) c.if-items-eq0.true).0;
-      upper_bound = omega arith;
-    }
-
-pub returns : goal.returns
-returns c =
-    record {
-      put = (an_item _ _ _ _ _ _ _ _ _ c.requires (not-false _ c.if-not-told.false-raw) c.if-items-eq0.false c.code_at-code.ensures c.command_at-parsed.ensures c.put_item.ensures).0;
-      upper_bound = (an_item _ _ _ _ _ _ _ _ _ c.requires (not-false _ c.if-not-told.false-raw) c.if-items-eq0.false c.code_at-code.ensures c.command_at-parsed.ensures c.put_item.ensures).1;
-    }
+pub returns-else-told : goal.returns-else-told
+returns-else-told c =
+    elim c.else-told.branch [
+      | else-told-via-then-told+else-items-ne0 w ↦ no_item _ _ _ _ w.if-told.true w.if-items-ne0.false
+      | else-told-via-else-told w ↦ not_told _ _ _ _ w.if-told.false
+    ]

@@ -1,39 +1,33 @@
 -- `write` meets its contract. The loop's invariant: what was put, and what the rest of the buffer takes from the state reached, is the piece.
 use mathlib.Core.Path.{refl, ◌∙◌}
-use native.Mathlib.Omega.{arith}
-use Rattle.sheet.proofs.Tellings.{goes, less}
+use Rattle.std.proofs.Common.{rules}
+use Rattle.sheet.proofs.Tellings.{goes, less, held}
 use Rattle.text.proofs.Written.{going, filled, ended}
 use Rattle.sheet.proofs.telling.write.Goals as goal
+use Rattle.sheet.proofs.telling.write.Goals.{then-loop-next-test+else-has_room, else-loop-next-test}
 
-pub loop-buffer-init : goal.loop-buffer-init
-loop-buffer-init c = (refl, (refl, going _ _ _ _ _ _))
+pub loop-next-init : goal.loop-next-init
+loop-next-init c = record { same_reference = refl; memory_length = refl; output_length = refl; going = going _ _ _ _ _ _ }
 
-pub overflow_sub-buffer : goal.overflow_sub-buffer
-overflow_sub-buffer c = omega (arith, c.loop-buffer.invariant.1.1.within, c.loop-buffer.invariant.1.1.same)
+pub loop-next-smaller : goal.loop-next-smaller
+loop-next-smaller c = less _ _ _ _ _ (search rules) c.write_part-next.ensures
 
-pub returns-then-next : goal.returns-then-next
-returns-then-next c = ended _ _ _ _ _ _ _ _ _ _ c.loop-buffer.invariant.1.1 c.if-next.true
-
-pub write_part-part-requires : goal.write_part-part-requires
-write_part-part-requires c =
-    let l = c.loop-buffer in
-    omega (arith, c.loop-buffer-test.true, l.invariant.1.1.within, l.invariant.1.1.same)
-
-pub loop-buffer-smaller : goal.loop-buffer-smaller
-loop-buffer-smaller c =
-    less _ _ _ _ _ _ _ _ c.if-next.false c.write_part-part.ensures
-
-pub loop-buffer-preserved : goal.loop-buffer-preserved
-loop-buffer-preserved c =
-    let l = c.loop-buffer in (
-      c.write_part-part.auto.memory ∙ l.invariant.0,
-      (
-        c.write_part-part.auto.output ∙ l.invariant.1.0,
-        goes _ _ _ _ _ _ _ _ _ _ _ l.invariant.1.1 c.if-next.false c.loop-buffer-test.true (omega (arith, l.invariant.1.1.within, l.invariant.1.1.same)) c.write_part-part.ensures,
-      ),
-    )
+pub loop-next-preserved : goal.loop-next-preserved
+loop-next-preserved c =
+    let l = c.loop-next in
+    let part = c.write_part-next in
+    record {
+      same_reference = part.ensures.same_reference ∙ l.invariant.same_reference;
+      memory_length = part.auto.memory ∙ l.invariant.memory_length;
+      output_length = part.auto.output ∙ l.invariant.output_length;
+      going = goes _ _ _ _ _ _ _ _ l.invariant.going (search rules) (search rules) part.ensures;
+    }
 
 pub returns : goal.returns
 returns c =
-    let l = c.loop-buffer in
-    filled _ _ _ _ _ _ _ _ _ _ l.invariant.1.1 (omega (arith, c.loop-buffer-test.false))
+    let l = c.loop-next in
+    held c.args.input.now (search rules)
+    (elim c.loop-next-test.branch [
+      | then-loop-next-test+else-has_room w ↦ filled _ _ _ _ _ _ _ _ _ _ l.invariant.going (search rules)
+      | else-loop-next-test w ↦ ended _ _ _ _ _ _ _ _ _ _ l.invariant.going (search rules)
+    ])

@@ -8,6 +8,6 @@ pub returns-then-n-lt10 : goal.returns-then-n-lt10
 unfolding hex_digit
 returns-then-n-lt10 c = simp (lt-ltb _ _ c.if-n-lt10.true, pick_true)
 
-pub returns : goal.returns
+pub returns-else-n-lt10 : goal.returns-else-n-lt10
 unfolding hex_digit
-returns c = simp (le-ltb _ _ c.if-n-lt10.false, pick_false)
+returns-else-n-lt10 c = simp (le-ltb _ _ c.if-n-lt10.false, pick_false)
