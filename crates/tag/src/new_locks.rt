@@ -60,12 +60,13 @@ pub(crate) fn new_pairs(mask: Pairs, action: Pairs, old: Pairs) -> Pairs
 fn refuses_pair(mask: u8, action: u8, old: u8) -> bool
     ensures { result ≡ refuses_pair mask action old }
 {
-    let is_changing = if mask % 2 == 1 {
+    if old % 2 == 0 {
+        false
+    } else if mask % 2 == 1 {
         action % 2 == 0
     } else {
         mask / 2 == 1 && action / 2 != old / 2
-    };
-    old % 2 == 1 && is_changing
+    }
 }
 
 #[tactic(auto, using(crate::proofs::Tests::tests), unfolding(crate::specs::Locks::refuses_lock))]
