@@ -3,7 +3,6 @@
 #![tactic(auto)]
 
 use console::STDOUT_FILENO;
-use frame::copying::copy;
 use samples::{FALSE_HEADER, FILLER, HISTORY, LONGEST, SAMPLE, TRUNCATED};
 
 // One tag, which has all of the memory.
@@ -19,13 +18,12 @@ fn on_sample(heading: &[u8], commands: &[u8]) {
 }
 
 // 376 commands of 87 bytes and one of 56 are 32,768 bytes.
-fn fill(commands: &mut [u8]) {
-    let mut at = 0;
-    while at < 32712 {
-        copy(&LONGEST, 0, 87, commands, at);
-        at += 87;
+fn fill(commands: &mut [u8; 32768]) {
+    let (longest, filler) = commands.split_at_mut(32712);
+    for command in longest.chunks_exact_mut(87) {
+        command.copy_from_slice(&LONGEST);
     }
-    copy(&FILLER, 0, 56, commands, at);
+    filler.copy_from_slice(&FILLER);
 }
 
 fn bad_images() {
@@ -46,10 +44,8 @@ fn long_inputs() {
 
 // The bytes 0 to 250 over and over. No frame is among them: BB is followed by BC.
 fn fill_with_noise(commands: &mut [u8]) {
-    let mut i = 0;
-    while i < commands.len() {
-        commands[i] = (i % 251) as u8;
-        i += 1;
+    for (i, byte) in commands.iter_mut().enumerate() {
+        *byte = (i % 251) as u8;
     }
 }
 
@@ -63,8 +59,8 @@ fn long_report() {
 // Tags of 86 bytes, one behind the other. The first two are the sample tag.
 fn on_crate(heading: &[u8], commands: &[u8], sizes: &[u64]) {
     let mut memory = [0u8; 1462];
-    copy(&SAMPLE, 0, 86, &mut memory, 0);
-    copy(&SAMPLE, 0, 86, &mut memory, 86);
+    memory[..86].copy_from_slice(&SAMPLE);
+    memory[86..172].copy_from_slice(&SAMPLE);
     io::write_all(STDOUT_FILENO, heading);
     console::print(true, commands, &mut memory, sizes);
 }

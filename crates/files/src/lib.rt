@@ -63,3 +63,13 @@ pub fn read_file(files: &impl Files, path: &[u8], buffer: &mut [u8]) -> Result<u
         None => Err(ReadError::NotOpened),
     }
 }
+
+// The same for a program that counts a file that can't be opened as empty.
+pub fn read_or_empty(files: &impl Files, path: &[u8], buffer: &mut [u8]) -> Result<usize, ReadError>
+    ensures { IfOk result (λ n. IsPrefixLen n buffer.new) }
+{
+    match read_file(files, path, buffer) {
+        Err(ReadError::NotOpened) => Ok(0),
+        read => read,
+    }
+}
