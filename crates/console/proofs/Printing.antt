@@ -23,7 +23,6 @@ use Rattle.report.specs.Writing.{state_at, started, Wrote, Told}
 use Rattle.report.specs.declared.limits.Unfit.{Unfit}
 use Rattle.std.proofs.Common.{Result, Ok, Err}
 use Rattle.report.specs.declared.writing.Progress.{Progress}
-use Rattle.report.specs.declared.writing.Written.{Written}
 
 module _ (commands : List ℕ) (places : List Place) (tags : ℕ) where
   -- what holds whenever a piece is to be written: the calls that were made and the steps that are left are together those of the run
@@ -75,28 +74,28 @@ module _ (commands : List ℕ) (places : List Place) (tags : ℕ) where
           some_calls = some_calls;
         }
 
-  module _ (memory₀ output₀ buffer₀ memory output bytes buffer memory' output' bytes' buffer' : List ℕ) (progress : Progress) (r : Written)
+  module _ (memory₀ output₀ buffer₀ memory output bytes buffer memory' output' bytes' buffer' : List ℕ) (progress progress' : Progress) (used : ℕ)
       (g : Going memory₀ output₀ buffer₀ memory output bytes buffer progress)
       (room : 408 ≤ length buffer₀)
-      (w : Wrote commands buffer buffer' (state_at memory places tags bytes output progress) progress.over (state_at memory' places tags bytes' output' r.progress) r)
+      (w : Wrote commands buffer buffer' (state_at memory places tags bytes output progress) progress.over (state_at memory' places tags bytes' output' progress') progress'.over used)
       (same_memory : length memory' ≡ length memory)
       (same_output : length output' ≡ length output)
       (same-buffer : length buffer' ≡ length buffer) where
-    pub used_there : r.used ≤ length buffer'
+    pub used_there : used ≤ length buffer'
     used_there = omega (arith, w.within)
 
     abbrev before : State
     before = state_at memory places tags bytes output progress
 
     abbrev behind : State
-    behind = state_at memory' places tags bytes' output' r.progress
+    behind = state_at memory' places tags bytes' output' progress'
 
     -- the steps of the piece, and those that are left behind it
-    apart : length (piece_of commands (length buffer) progress.over before) + length (steps_from commands r.progress.over behind)
+    apart : length (piece_of commands (length buffer) progress.over before) + length (steps_from commands progress'.over behind)
         ≡ length (steps_from commands progress.over before)
     apart = rw (w.over_is, w.next_is) (splits commands (length buffer) progress.over before).steps
 
-    pub goes_on : Going memory₀ output₀ buffer₀ memory' output' bytes' buffer' r.progress
+    pub goes_on : Going memory₀ output₀ buffer₀ memory' output' bytes' buffer' progress'
     unfolding left_by
     goes_on =
         let k : ℕ = length (piece_of commands (length buffer) progress.over before) in
@@ -113,7 +112,7 @@ module _ (commands : List ℕ) (places : List Place) (tags : ℕ) where
         }
 
     -- fewer steps are left
-    pub nearer : progress.over ≡ false → length (steps_from commands r.progress.over behind) < length (steps_from commands progress.over before)
+    pub nearer : progress.over ≡ false → length (steps_from commands progress'.over behind) < length (steps_from commands progress.over before)
     nearer on = omega (arith, apart, rw (← on) at (some commands (length buffer) before (omega (arith, g.buffer_length))))
 
 -- ---- the line of files that are not run

@@ -30,7 +30,7 @@ fn print_pieces(
     let mut selection = [0u8; 39];
     let mut progress = Progress::start();
     while !progress.over {
-        let Some(written) = write(
+        let Some(used) = write(
             commands,
             memory,
             output,
@@ -38,15 +38,13 @@ fn print_pieces(
             buffer,
             places,
             tags,
-            progress,
+            &mut progress,
         ) else {
             return false;
         };
-        let used = written.used;
         if !io::write_all(STDOUT_FILENO, &buffer[..used]) {
             return false;
         }
-        progress = written.progress;
     }
     true
 }

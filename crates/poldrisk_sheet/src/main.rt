@@ -29,7 +29,7 @@ fn print_rows(
     let mut selection = [0u8; 39];
     let mut progress = Progress::start();
     while !progress.over {
-        let written = write(
+        let used = write(
             commands,
             memory,
             output,
@@ -37,13 +37,11 @@ fn print_rows(
             buffer,
             places,
             tags,
-            progress,
+            &mut progress,
         );
-        let used = written.used;
         if !io::write_all(STDOUT_FILENO, &buffer[..used]) {
             return false;
         }
-        progress = written.progress;
     }
     true
 }

@@ -19,7 +19,8 @@ fn run(heading: &[u8], tag: [u8; 86], command: &[u8]) {
     let mut line = [0u8; 408];
     let mut places = [Place { from: 0, size: 0 }; 16];
     places[0] = Place { from: 0, size: 86 };
-    let Some(written) = write(
+    let mut progress = Progress::start();
+    let Some(used) = write(
         command,
         &mut image,
         &mut output,
@@ -27,11 +28,10 @@ fn run(heading: &[u8], tag: [u8; 86], command: &[u8]) {
         &mut line,
         places,
         1,
-        Progress::start(),
+        &mut progress,
     ) else {
         return;
     };
-    let used = written.used;
     io::write_all(STDOUT_FILENO, heading);
     io::write_all(STDOUT_FILENO, &line[..used]);
 }

@@ -34,9 +34,6 @@ pub record SoFar (frame : List ℕ) (i : ℕ) (before after : Writer) : Type 0 w
   pub puts : Puts (3 * i) piece before after
   pub rest : piece ++ frame_line (drop i frame) ≡ frame_line frame
 
-pub none_yet : (frame : List ℕ) (writer : Writer) → SoFar frame 0 writer writer
-none_yet frame writer = record { piece = []; puts = nothing_put 0 writer; rest = refl }
-
 pub one_more : (frame : List ℕ) (i mark : ℕ) {before w1 w2 after : Writer} → i < length frame → mark ≡ separator (drop (i + 1) frame)
     → SoFar frame i before w1 → Lays (hex_byte (get_or frame i 0)) w1 w2 → Puts 1 (mark ∷ []) w2 after → SoFar frame (i + 1) before after
 one_more frame i mark h e so_far hex behind =

@@ -20,7 +20,6 @@ use Rattle.report.specs.Lines.{line_of, ends}
 use Rattle.report.specs.Pieces.{piece_of, left_by, over_by}
 use Rattle.report.specs.Report.{steps_from, lines_of}
 use Rattle.report.specs.Writing.{OneLine, Wrote}
-use Rattle.report.specs.declared.writing.Progress.{Progress}
 use Rattle.text.proofs.Puts.{put_join}
 use Rattle.text.proofs.Written.{put_first}
 use Rattle.text.specs.declared.writer.Writer.{Writer}
@@ -106,11 +105,11 @@ eqb_more k n =
 
 module _ (input before : List ℕ) (start : State) (over₀ : Bool) where
   -- the rest of the buffer takes no more; what the writer leaves is what the buffer holds
-  full : (buffer held : List ℕ) (used : ℕ) (s : State) (q : Progress) → 408 ≤ length before → held ≡ buffer
-      → Going input before start over₀ buffer used s q.over
-      → piece_of input (length before - used) q.over s ≡ [] → Wrote input before held start over₀ s record { used = used; progress = q }
+  full : (buffer held : List ℕ) (used : ℕ) (s : State) (last : Bool) → 408 ≤ length before → held ≡ buffer
+      → Going input before start over₀ buffer used s last
+      → piece_of input (length before - used) last s ≡ [] → Wrote input before held start over₀ s last used
   unfolding lines_of left_by over_by
-  full buffer held used s q long is g none =
+  full buffer held used s last long is g none =
       let bytes : lines_of input start (piece_of input (length before) over₀ start) ≡ g.bytes
       = g.lines ∙ rw none (append-nil g.bytes) in
       let calls : length (piece_of input (length before) over₀ start) ≡ g.calls = g.piece ∙ rw none (omega arith) in
@@ -122,16 +121,16 @@ module _ (input before : List ℕ) (start : State) (over₀ : Bool) where
         buffer_is = is ∙ rw bytes first.1;
         next_is = g.made ∙ ap (λ (k : ℕ). after (replicate k (call input)) start) (sym calls);
         over_is =
-            over_is input q.over s ∙ eqb_more g.calls (length (steps_from input q.over s)) ∙ rw (calls, g.left);
+            over_is input last s ∙ eqb_more g.calls (length (steps_from input last s)) ∙ rw (calls, g.left);
       }
 
-  pub filled : (buffer held : List ℕ) (used : ℕ) (s : State) (q : Progress) → 408 ≤ length before → held ≡ buffer
-      → Going input before start over₀ buffer used s q.over → length buffer < used + 408
-      → Wrote input before held start over₀ s record { used = used; progress = q }
-  filled buffer held used s q long is g little =
-      full buffer held used s q long is g (no_room input (length before - used) q.over s (omega (arith, g.within, g.same)))
+  pub filled : (buffer held : List ℕ) (used : ℕ) (s : State) (last : Bool) → 408 ≤ length before → held ≡ buffer
+      → Going input before start over₀ buffer used s last → length buffer < used + 408
+      → Wrote input before held start over₀ s last used
+  filled buffer held used s last long is g little =
+      full buffer held used s last long is g (no_room input (length before - used) last s (omega (arith, g.within, g.same)))
 
-  pub ended : (buffer held : List ℕ) (used : ℕ) (s : State) (q : Progress) → 408 ≤ length before → held ≡ buffer
-      → Going input before start over₀ buffer used s q.over → q.over ≡ true
-      → Wrote input before held start over₀ s record { used = used; progress = q }
-  ended buffer held used s q long is g over = full buffer held used s q long is g (rw over (piece_over input (length before - used) s))
+  pub ended : (buffer held : List ℕ) (used : ℕ) (s : State) (last : Bool) → 408 ≤ length before → held ≡ buffer
+      → Going input before start over₀ buffer used s last → last ≡ true
+      → Wrote input before held start over₀ s last used
+  ended buffer held used s last long is g over = full buffer held used s last long is g (rw over (piece_over input (length before - used) s))

@@ -12,7 +12,6 @@ use Rattle.report.specs.Lines.{longest_line, line_for, line_of, ends}
 use Rattle.report.specs.Pieces.{piece_of, left_by, over_by}
 use Rattle.report.specs.Report.{lines_of}
 use Rattle.report.specs.declared.writing.Progress.{Progress}
-use Rattle.report.specs.declared.writing.Written.{Written}
 use Rattle.text.specs.Writing.{Puts}
 use Rattle.text.specs.declared.writer.Writer.{Writer}
 
@@ -45,20 +44,21 @@ pub record OneLine (input : List ℕ) (s : State) (before after : Writer) (next 
   pub over_is : over ≡ ends (step (call input) s).outcome
 
 -- a buffer shorter than the longest line is refused: nothing changes
-pub record Refused (before after : List ℕ) (s next : State) : Type 0 where
+pub record Refused (before after : List ℕ) (p q : Progress) (s next : State) : Type 0 where
   pub short : length before < longest_line
   pub buffer_is : after ≡ before
+  pub progress_is : q ≡ p
   pub next_is : next ≡ s
 
 -- What `write` comes to, in any other buffer: the lines of the piece stand at its start, and what lies behind them stays. The state is the one after as many
 -- calls as the piece has steps.
-pub record Wrote (input before after : List ℕ) (s : State) (over : Bool) (next : State) (r : Written) : Type 0 where
+pub record Wrote (input before after : List ℕ) (s : State) (over : Bool) (next : State) (last : Bool) (used : ℕ) : Type 0 where
   pub long : longest_line ≤ length before
-  pub used_is : r.used ≡ length (lines_of input s (piece_of input (length before) over s))
-  pub within : r.used ≤ length before
+  pub used_is : used ≡ length (lines_of input s (piece_of input (length before) over s))
+  pub within : used ≤ length before
   pub buffer_is : after ≡ written (lines_of input s (piece_of input (length before) over s)) before
   pub next_is : next ≡ left_by input (length before) over s
-  pub over_is : r.progress.over ≡ over_by input (length before) over s
+  pub over_is : last ≡ over_by input (length before) over s
 
 -- ---- a report that is one line
 

@@ -42,13 +42,6 @@ impl Progress {
     }
 }
 
-// What a piece comes to: how many bytes stand in the buffer, and where the report goes on.
-#[derive(Clone, Copy)]
-pub struct Written {
-    pub used: usize,
-    pub progress: Progress,
-}
-
 // The longest line: a frame of 136 bytes, each with two digits and a separator.
 const LONGEST_LINE: usize = 408;
 
@@ -109,15 +102,14 @@ fn write_line(
     selection: &mut [u8; 39],
     places: [Place; 16],
     tags: usize,
-    progress: Progress,
-) -> Progress
-    ensures { OneLine input.now (state_at memory.old places tags selection.old output.old progress)
+    progress: &mut Progress,
+)
+    ensures { OneLine input.now (state_at memory.old places tags selection.old output.old progress.old)
         writer.old writer.new
-        (state_at memory.new places tags selection.new output.new result) result.over }
+        (state_at memory.new places tags selection.new output.new progress.new) progress.new.over }
 {
     let reader = progress.reader;
-    let before = progress.records;
-    let list = with_room(before, progress.held);
+    let list = with_room(progress.records, progress.held);
     let listed = call_beside(
         input,
         memory,
@@ -133,21 +125,17 @@ fn write_line(
     );
     let called = listed.called;
     put_line(writer, input, reader.cursor, output, called);
-    let room = list.records;
-    let records = add_in(room, listed.at, listed.item);
-    let moved = called.reader;
-    let outcome = called.outcome;
-    Progress {
-        reader: moved,
+    *progress = Progress {
+        reader: called.reader,
         next: called.next,
         count: called.count,
-        records,
+        records: add_in(list.records, listed.at, listed.item),
         held: listed.held,
-        over: is_last(outcome),
-    }
+        over: is_last(called.outcome),
+    };
 }
 
-// Whole lines from the start of the buffer on, as many as are sure to fit. A buffer shorter than the longest line is refused, and
+// Whole lines from the start of the buffer on, as many as are sure to fit: how many bytes they are. A buffer shorter than the longest line is refused, and
 // nothing changes.
 pub fn write(
     input: &[u8],
@@ -157,23 +145,22 @@ pub fn write(
     buffer: &mut [u8],
     places: [Place; 16],
     tags: usize,
-    progress: Progress,
-) -> Option<Written>
+    progress: &mut Progress,
+) -> Option<usize>
     ensures { MatchOption result
-        (Refused buffer.old buffer.new
-        (state_at memory.old places tags selection.old output.old progress)
-        (state_at memory.new places tags selection.new output.new progress))
-        (λ written. Wrote input.now buffer.old buffer.new
-        (state_at memory.old places tags selection.old output.old progress) progress.over
-        (state_at memory.new places tags selection.new output.new written.progress) written) }
+        (Refused buffer.old buffer.new progress.old progress.new
+        (state_at memory.old places tags selection.old output.old progress.old)
+        (state_at memory.new places tags selection.new output.new progress.new))
+        (λ used. Wrote input.now buffer.old buffer.new
+        (state_at memory.old places tags selection.old output.old progress.old) progress.old.over
+        (state_at memory.new places tags selection.new output.new progress.new) progress.new.over used) }
 {
     if buffer.len() < LONGEST_LINE {
         return None;
     }
     let mut writer = Writer { buffer, at: 0 };
-    let mut next = progress;
-    while !next.over && writer.has_room(LONGEST_LINE) {
-        next = write_line(
+    while !progress.over && writer.has_room(LONGEST_LINE) {
+        write_line(
             &mut writer,
             input,
             memory,
@@ -181,11 +168,8 @@ pub fn write(
             selection,
             places,
             tags,
-            next,
+            progress,
         );
     }
-    Some(Written {
-        used: writer.at,
-        progress: next,
-    })
+    Some(writer.at)
 }

@@ -45,13 +45,6 @@ impl Progress {
     }
 }
 
-// How many bytes of the buffer a piece has, and where the sheet goes on.
-#[derive(Clone, Copy)]
-pub struct Written {
-    pub used: usize,
-    pub progress: Progress,
-}
-
 // More than the longest part has: the rows of an item, and the foot.
 const LONGEST_PART: usize = 1024;
 
@@ -117,12 +110,12 @@ fn write_part(
     selection: &mut [u8; 39],
     places: [Place; 16],
     tags: usize,
-    progress: Progress,
-) -> Progress
+    progress: &mut Progress,
+)
     requires { writer.old.at + longest_part ≤ length writer.old.buffer.now }
-    ensures { OnePart input.now (standing_at memory.old places tags selection.old output.old progress)
+    ensures { OnePart input.now (standing_at memory.old places tags selection.old output.old progress.old)
         writer.old writer.new
-        (standing_at memory.new places tags selection.new output.new result) result.over }
+        (standing_at memory.new places tags selection.new output.new progress.new) progress.new.over }
 {
     let reader = progress.reader;
     let items = progress.items;
@@ -143,18 +136,17 @@ fn write_part(
     let over = is_last(outcome);
     let told = is_told(over, items, reader.cursor, failing);
     put_last(writer, input, items, told);
-    let moved = called.reader;
-    put_end(writer, input, moved, items.count, outcome);
-    Progress {
-        reader: moved,
+    put_end(writer, input, called.reader, items.count, outcome);
+    *progress = Progress {
+        reader: called.reader,
         next: called.next,
         count: called.count,
         items: items_after(items, reader.cursor, failing),
         over,
-    }
+    };
 }
 
-// From the start of the buffer on, as many parts as are sure to fit. Where the longest has no room nothing changes.
+// From the start of the buffer on, as many parts as are sure to fit: how many bytes they are. Where the longest has no room nothing changes.
 pub fn write(
     input: &[u8],
     memory: &mut [u8],
@@ -163,18 +155,17 @@ pub fn write(
     buffer: &mut [u8],
     places: [Place; 16],
     tags: usize,
-    progress: Progress,
-) -> Written
+    progress: &mut Progress,
+) -> usize
     ensures { Wrote
-        (fill (teller input.now) longest_part (length buffer.old) progress.over
-        (standing_at memory.old places tags selection.old output.old progress))
-        buffer.old buffer.new result.used result.progress.over
-        (standing_at memory.new places tags selection.new output.new result.progress) }
+        (fill (teller input.now) longest_part (length buffer.old) progress.old.over
+        (standing_at memory.old places tags selection.old output.old progress.old))
+        buffer.old buffer.new result progress.new.over
+        (standing_at memory.new places tags selection.new output.new progress.new) }
 {
     let mut writer = Writer { buffer, at: 0 };
-    let mut next = progress;
-    while !next.over && writer.has_room(LONGEST_PART) {
-        next = write_part(
+    while !progress.over && writer.has_room(LONGEST_PART) {
+        write_part(
             &mut writer,
             input,
             memory,
@@ -182,11 +173,8 @@ pub fn write(
             selection,
             places,
             tags,
-            next,
+            progress,
         );
     }
-    Written {
-        used: writer.at,
-        progress: next,
-    }
+    writer.at
 }

@@ -1,6 +1,6 @@
 -- Every claim of specs/Claims.antt holds.
 use mathlib.Core.Path.{refl}
-use Rattle.text.proofs.CountPuts as counts
+use Rattle.text.proofs.CountLines as counts
 use Rattle.text.proofs.Decimals as decimals
 use Rattle.text.specs.Claims.{HexDigits, HexBytes, OneDigit, MoreDigits, CountsInOrder, RefusedNumber}
 use Rattle.text.specs.Digits.{hex_byte}

@@ -39,13 +39,6 @@ module _ (piece : List ℕ) (at : ℕ) (before : List ℕ) where
   pub none_laid : reaches before at (length piece) ≡ false → Laid piece at before before at
   none_laid none = record { bytes_are = simp (none, pick_false); result_is = simp (none, pick_false) }
 
--- a piece laid behind one that was put, where both have room
-pub join_laid : (a b : List ℕ) (at : ℕ) (before middle after : List ℕ) (next last : ℕ) → Put a at before middle next → Laid b next middle after last
-    → at + length a + length b ≤ length before → Put (a ++ b) at before after last
-join_laid a b at before middle after next last first second room =
-    put_join a b at before middle after next last first
-    (laid_put b next middle after last (omega (arith, first.next_is, length_put a at before middle next first)) second)
-
 -- ---- a piece of at most so many bytes
 
 module _ (most : ℕ) (piece : List ℕ) (at : ℕ) (before : List ℕ) where

@@ -1,10 +1,10 @@
 pub mod Claimed
-pub mod CountPuts
+pub mod CountLines
 pub mod Decimals
 pub mod Laying
 pub mod Lengths
 pub mod Overlays
 pub mod Puts
 pub mod Told
-pub mod Written
 pub mod Writing
+pub mod Written

@@ -10,30 +10,30 @@ loop-progress-init c = going _ _ _ _ _ _ _ _ c.start-progress.ensures
 
 pub slice_bounds-write_all-end : goal.slice_bounds-write_all-end
 slice_bounds-write_all-end c =
-    let made = c.write-written in
+    let made = c.write-used in
     used_there _ _ _ _ _ _ _ _ _ _ _ _ _ _ _ _ _ c.loop-progress.invariant c.requires made.ensures made.auto.memory made.auto.output made.auto.buffer
 
 pub slice_bounds-write_all-end-in-loop-progress : goal.slice_bounds-write_all-end-in-loop-progress
 slice_bounds-write_all-end-in-loop-progress c =
-    let made = c.write-written in
+    let made = c.write-used in
     sym (length-take-le _ _ (used_there _ _ _ _ _ _ _ _ _ _ _ _ _ _ _ _ _ c.loop-progress.invariant c.requires
     made.ensures made.auto.memory made.auto.output made.auto.buffer))
 
 pub returns-then-not-write_all : goal.returns-then-not-write_all
 returns-then-not-write_all c =
-    let made = c.write-written in
+    let made = c.write-used in
     left_by _ _ _ _ _ _ _ _ _ _ _ (goes_on _ _ _ _ _ _ _ _ _ _ _ _ _ _ _ _ _ c.loop-progress.invariant c.requires
     made.ensures made.auto.memory made.auto.output made.auto.buffer)
 
 pub loop-progress-smaller : goal.loop-progress-smaller
 loop-progress-smaller c =
-    let made = c.write-written in
+    let made = c.write-used in
     nearer _ _ _ _ _ _ _ _ _ _ _ _ _ _ _ _ _ c.loop-progress.invariant c.requires
     made.ensures made.auto.memory made.auto.output made.auto.buffer (not-true _ c.loop-progress-test.true)
 
 pub loop-progress-preserved : goal.loop-progress-preserved
 loop-progress-preserved c =
-    let made = c.write-written in
+    let made = c.write-used in
     goes_on _ _ _ _ _ _ _ _ _ _ _ _ _ _ _ _ _ c.loop-progress.invariant c.requires made.ensures made.auto.memory made.auto.output made.auto.buffer
 
 pub returns : goal.returns

@@ -4,18 +4,18 @@ use mathlib.Core.Path.{refl, ◌∙◌}
 use Rattle.std.proofs.Common.{rules}
 use Rattle.report.proofs.Pieces.{going, goes, falls, filled, ended}
 use Rattle.report.proofs.writing.write.Goals as goal
-use Rattle.report.proofs.writing.write.Goals.{then-loop-next-test+else-has_room, else-loop-next-test}
+use Rattle.report.proofs.writing.write.Goals.{then-loop-progress-test+else-has_room, else-loop-progress-test}
 
-pub loop-next-init : goal.loop-next-init
-loop-next-init c = record { same_reference = refl; memory_length = refl; output_length = refl; going = going _ _ _ _ }
+pub loop-progress-init : goal.loop-progress-init
+loop-progress-init c = record { same_reference = refl; memory_length = refl; output_length = refl; going = going _ _ _ _ }
 
-pub loop-next-smaller : goal.loop-next-smaller
-loop-next-smaller c = falls _ _ _ _ _ (search rules) c.write_line-next.ensures
+pub loop-progress-smaller : goal.loop-progress-smaller
+loop-progress-smaller c = falls _ _ _ _ _ (search rules) c.write_line.ensures
 
-pub loop-next-preserved : goal.loop-next-preserved
-loop-next-preserved c =
-    let l = c.loop-next in
-    let line = c.write_line-next in
+pub loop-progress-preserved : goal.loop-progress-preserved
+loop-progress-preserved c =
+    let l = c.loop-progress in
+    let line = c.write_line in
     record {
       same_reference = line.ensures.line.same_reference ∙ l.invariant.same_reference;
       memory_length = line.auto.memory ∙ l.invariant.memory_length;
@@ -25,8 +25,8 @@ loop-next-preserved c =
 
 pub returns : goal.returns
 returns c =
-    let l = c.loop-next in
-    elim c.loop-next-test.branch [
-      | then-loop-next-test+else-has_room w ↦ filled _ _ _ _ _ _ _ _ _ c.if-buffer-lt-LONGEST_LINE.false (search rules) l.invariant.going (search rules)
-      | else-loop-next-test w ↦ ended _ _ _ _ _ _ _ _ _ c.if-buffer-lt-LONGEST_LINE.false (search rules) l.invariant.going (search rules)
+    let l = c.loop-progress in
+    elim c.loop-progress-test.branch [
+      | then-loop-progress-test+else-has_room w ↦ filled _ _ _ _ _ _ _ _ _ c.if-buffer-lt-LONGEST_LINE.false (search rules) l.invariant.going (search rules)
+      | else-loop-progress-test w ↦ ended _ _ _ _ _ _ _ _ _ c.if-buffer-lt-LONGEST_LINE.false (search rules) l.invariant.going (search rules)
     ]

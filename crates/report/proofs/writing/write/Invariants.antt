@@ -9,15 +9,15 @@ use Rattle.report.proofs.Pieces.{Going}
 use Rattle.report.specs.Writing.{state_at}
 use Rattle.report.proofs.writing.write.Given as goal
 
-abbrev pub invariant-loop-next : goal.invariant-loop-next
-invariant-loop-next l =
+abbrev pub invariant-loop-progress : goal.invariant-loop-progress
+invariant-loop-progress l =
     record {
       same_reference : l.writer.buffer.ghost_name ≡ l.initial.writer.buffer.ghost_name;
       memory_length : length l.memory ≡ length l.initial.memory;
       output_length : length l.output ≡ length l.initial.output;
-      going : Going l.input l.initial.writer.buffer.now (state_at l.initial.memory l.places l.tags l.initial.selection l.initial.output l.initial.next) l.initial.next.over l.writer.buffer.now l.writer.at (state_at l.memory l.places l.tags l.selection l.output l.next) l.next.over;
+      going : Going l.input l.initial.writer.buffer.now (state_at l.initial.memory l.places l.tags l.initial.selection l.initial.output l.initial.progress) l.initial.progress.over l.writer.buffer.now l.writer.at (state_at l.memory l.places l.tags l.selection l.output l.progress) l.progress.over;
     }
 
-abbrev pub decreases-loop-next : goal.decreases-loop-next
-decreases-loop-next l =
-    pick l.next.over 0 (suc (work l.input (state_at l.memory l.places l.tags l.selection l.output l.next)))
+abbrev pub decreases-loop-progress : goal.decreases-loop-progress
+decreases-loop-progress l =
+    pick l.progress.over 0 (suc (work l.input (state_at l.memory l.places l.tags l.selection l.output l.progress)))

@@ -4,18 +4,18 @@ use Rattle.std.proofs.Common.{rules}
 use Rattle.sheet.proofs.Tellings.{goes, less, held}
 use Rattle.text.proofs.Written.{going, filled, ended}
 use Rattle.sheet.proofs.telling.write.Goals as goal
-use Rattle.sheet.proofs.telling.write.Goals.{then-loop-next-test+else-has_room, else-loop-next-test}
+use Rattle.sheet.proofs.telling.write.Goals.{then-loop-progress-test+else-has_room, else-loop-progress-test}
 
-pub loop-next-init : goal.loop-next-init
-loop-next-init c = record { same_reference = refl; memory_length = refl; output_length = refl; going = going _ _ _ _ _ _ }
+pub loop-progress-init : goal.loop-progress-init
+loop-progress-init c = record { same_reference = refl; memory_length = refl; output_length = refl; going = going _ _ _ _ _ _ }
 
-pub loop-next-smaller : goal.loop-next-smaller
-loop-next-smaller c = less _ _ _ _ _ (search rules) c.write_part-next.ensures
+pub loop-progress-smaller : goal.loop-progress-smaller
+loop-progress-smaller c = less _ _ _ _ _ (search rules) c.write_part.ensures
 
-pub loop-next-preserved : goal.loop-next-preserved
-loop-next-preserved c =
-    let l = c.loop-next in
-    let part = c.write_part-next in
+pub loop-progress-preserved : goal.loop-progress-preserved
+loop-progress-preserved c =
+    let l = c.loop-progress in
+    let part = c.write_part in
     record {
       same_reference = part.ensures.same_reference ∙ l.invariant.same_reference;
       memory_length = part.auto.memory ∙ l.invariant.memory_length;
@@ -25,9 +25,9 @@ loop-next-preserved c =
 
 pub returns : goal.returns
 returns c =
-    let l = c.loop-next in
+    let l = c.loop-progress in
     held c.args.input.now (search rules)
-    (elim c.loop-next-test.branch [
-      | then-loop-next-test+else-has_room w ↦ filled _ _ _ _ _ _ _ _ _ _ l.invariant.going (search rules)
-      | else-loop-next-test w ↦ ended _ _ _ _ _ _ _ _ _ _ l.invariant.going (search rules)
+    (elim c.loop-progress-test.branch [
+      | then-loop-progress-test+else-has_room w ↦ filled _ _ _ _ _ _ _ _ _ _ l.invariant.going (search rules)
+      | else-loop-progress-test w ↦ ended _ _ _ _ _ _ _ _ _ _ l.invariant.going (search rules)
     ])

@@ -7,15 +7,15 @@ use Rattle.sheet.specs.Writing.{standing_at}
 use Rattle.text.specs.Telling.{left}
 use Rattle.sheet.proofs.telling.write.Given as goal
 
-abbrev pub invariant-loop-next : goal.invariant-loop-next
-invariant-loop-next l =
+abbrev pub invariant-loop-progress : goal.invariant-loop-progress
+invariant-loop-progress l =
     record {
       same_reference : l.writer.buffer.ghost_name ≡ l.initial.writer.buffer.ghost_name;
       memory_length : length l.memory ≡ length l.initial.memory;
       output_length : length l.output ≡ length l.initial.output;
-      going : GoingOn l.input l.initial.writer.buffer.now l.initial.next.over (standing_at l.initial.memory l.places l.tags l.initial.selection l.initial.output l.initial.next) l.writer.buffer.now l.writer.at l.next.over (standing_at l.memory l.places l.tags l.selection l.output l.next);
+      going : GoingOn l.input l.initial.writer.buffer.now l.initial.progress.over (standing_at l.initial.memory l.places l.tags l.initial.selection l.initial.output l.initial.progress) l.writer.buffer.now l.writer.at l.progress.over (standing_at l.memory l.places l.tags l.selection l.output l.progress);
     }
 
-abbrev pub decreases-loop-next : goal.decreases-loop-next
-decreases-loop-next l =
-    left (teller l.input) l.next.over (standing_at l.memory l.places l.tags l.selection l.output l.next)
+abbrev pub decreases-loop-progress : goal.decreases-loop-progress
+decreases-loop-progress l =
+    left (teller l.input) l.progress.over (standing_at l.memory l.places l.tags l.selection l.output l.progress)

@@ -1,7 +1,7 @@
 -- `put_count` meets its contract: the word, then the number.
 use native.Mathlib.Omega.{arith}
 use Rattle.std.proofs.Common.{rules}
-use Rattle.text.proofs.CountPuts.{count_short}
+use Rattle.text.proofs.CountLines.{count_short}
 use Rattle.text.proofs.Writing.{word_put, decimal_put, put_behind, puts_within, within_nothing}
 use Rattle.text.specs.Counts.{count_part}
 use Rattle.text.proofs.writer.Writer.put_count.Goals as goal

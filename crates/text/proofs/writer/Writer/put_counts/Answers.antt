@@ -2,7 +2,7 @@
 use mathlib.Core.Path.{refl}
 use native.Mathlib.Omega.{arith}
 use Rattle.std.proofs.Common.{rules}
-use Rattle.text.proofs.CountPuts.{counts_short}
+use Rattle.text.proofs.CountLines.{counts_short}
 use Rattle.text.proofs.Writing.{word_put, put_behind, count_put, puts_within, within_nothing}
 use Rattle.text.specs.Counts.{left_word, counts_line}
 use Rattle.text.proofs.writer.Writer.put_counts.Goals as goal

@@ -2,7 +2,7 @@
 use mathlib.Core.Path.{refl}
 use native.Mathlib.Omega.{arith}
 use Rattle.std.proofs.Common.{rules}
-use Rattle.text.proofs.CountPuts.{refused_short}
+use Rattle.text.proofs.CountLines.{refused_short}
 use Rattle.text.proofs.Writing.{word_put, put_behind, count_put, puts_within, within_nothing}
 use Rattle.text.specs.Counts.{refused_word, refused_line}
 use Rattle.text.proofs.writer.Writer.put_refused.Goals as goal

@@ -56,15 +56,6 @@ pub refused_short : (n : ℕ) → Small n → length (refused_line n) ≤ 29
 unfolding refused_line refused_word
 refused_short n small = omega (arith, length-append (count_part refused_word n) (10 ∷ []), count_short refused_word n small)
 
--- a line has at least its newline
-pub counts_some : (t : Tally) (left : ℕ) → 0 < length (counts_line t left)
-unfolding counts_line
-counts_some t left = omega (arith, length-append (tally_part t ++ count_part left_word left) (10 ∷ []))
-
-pub refused_some : (n : ℕ) → 0 < length (refused_line n)
-unfolding refused_line
-refused_some n = omega (arith, length-append (count_part refused_word n) (10 ∷ []))
-
 -- ---- the claims
 
 regroup : (a b c d e f g l n : List ℕ) → (((((a ++ b) ++ (c ++ d)) ++ (e ++ f)) ++ g) ++ l) ++ n ≡ a ++ (b ++ (c ++ (d ++ (e ++ (f ++ (g ++ (l ++ n)))))))
