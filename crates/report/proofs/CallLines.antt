@@ -36,8 +36,8 @@ module _ (input output : List ℕ) (cursor : ℕ) (r : Called) {before after : W
   unfolding line_for
   drop_put d b e is line = rw e (rw is at line)
 
-  pub counts_put : (left : ℕ) → (r.outcome ≡ AtEnd) ⊎ (r.outcome ≡ Incomplete) → left ≡ length input - r.reader.cursor
-      → Puts 408 (counts_line r.reader.tally left) before after → Puts 408 (line_by input cursor r output) before after
+  pub counts_put : (left : ℕ) → (r.outcome ≡ AtEnd) ⊎ (r.outcome ≡ Incomplete) → left ≡ length input - r.state.reader.cursor
+      → Puts 408 (counts_line r.state.reader.tally left) before after → Puts 408 (line_by input cursor r output) before after
   unfolding line_for
   counts_put left over is line = elim over [ inl e ↦ rw e (rw is at line) | inr e ↦ rw e (rw is at line) ]
 
@@ -101,7 +101,7 @@ module _ (input : List ℕ) (s : State) (bytes₀ : List ℕ) (count held : ℕ)
   called_framed = subst (λ (x : Step). x.outcome ≡ Answered → Framed x.length (length x.next.output)) (sym made_is) (step_framed (call input) s)
 
   pub called_line : {before after : Writer} (over : Bool) → Puts 408 (line_by input s.reader.cursor r.called output) before after → over ≡ ends r.called.outcome
-      → OneLine input s before after (state_of memory s.places s.tags (selection_in bytes r.called.count) output r.called.reader r.called.next) over
+      → OneLine input s before after (state_of memory s.places s.tags (selection_in bytes r.called.state.selected) output r.called.state.reader r.called.state.next) over
   unfolding line_of
   called_line {before = before} {after = after} over line last =
       record {

@@ -20,6 +20,7 @@ use Rattle.population.proofs.Firsts.{first_none}
 use Rattle.population.specs.Lowest.{lowest, no_tag}
 use Rattle.population.specs.Places.{good_population}
 use Rattle.population.specs.Selections.{good_selection}
+use Rattle.population.specs.declared.places.Place.{Place}
 use Rattle.std.specs.Prelude.{Option}
 use Rattle.report.proofs.LinesOfCalls.{count_lines, refused_lines}
 use Rattle.report.proofs.Reports.{ends_is, report_over, report_more}

@@ -6,8 +6,8 @@ use Rattle.calls.specs.declared.calling.Called.{Called}
 use Rattle.failures.specs.Records.{blank}
 use Rattle.frame.specs.Bytes.{byte}
 use Rattle.frame.specs.Frames.{written}
-use Rattle.population.specs.declared.places.Place.{Place}
-use Rattle.reader.specs.Readers.{fresh_reader}
+use Rattle.population.specs.declared.places.Population.{Population}
+use Rattle.reader.specs.Readers.{fresh_bench}
 use Rattle.report.specs.Lines.{longest_line, line_for, line_of, ends}
 use Rattle.report.specs.Pieces.{piece_of, left_by, over_by}
 use Rattle.report.specs.Report.{lines_of}
@@ -26,16 +26,17 @@ pub record Framed (length most : ℕ) : Type 0 where
 -- the line of a call that was made at the cursor
 abbrev pub line_by : List ℕ → ℕ → Called → List ℕ → List ℕ
 line_by input cursor r output =
-    line_for r.outcome (take r.length output) (byte input cursor) r.reader.tally (length input - r.reader.cursor)
+    line_for r.outcome (take r.length output) (byte input cursor) r.state.reader.tally (length input - r.state.reader.cursor)
 
 -- ---- a piece of the report
 
 -- the state that a report goes on from
-abbrev pub state_at : List ℕ → List Place → ℕ → List ℕ → List ℕ → Progress → State
-state_at memory places tags bytes output p = state_of memory places tags (selection_in bytes p.count) output p.reader p.next
+abbrev pub state_at : List ℕ → Population → List ℕ → List ℕ → Progress → State
+state_at memory population bytes output p =
+    state_of memory population.places population.tags (selection_in bytes p.state.selected) output p.state.reader p.state.next
 
 abbrev pub started : Progress
-started = record { reader = fresh_reader; next = 16; count = 0; records = replicate 8 blank; held = 0; over = false }
+started = record { state = fresh_bench; records = replicate 8 blank; held = 0; over = false }
 
 -- one call is made, its line is put, and the state is the one that the call leaves
 pub record OneLine (input : List ℕ) (s : State) (before after : Writer) (next : State) (over : Bool) : Type 0 where

@@ -10,18 +10,16 @@ use failures::listing::call_beside;
 use failures::record::Record;
 use failures::records::{add_in, remove_in};
 use frame::bytes::byte_at;
-use population::places::Place;
-use reader::outcome::{Outcome, number_of};
-use reader::state::Reader;
+use population::places::Population;
+use reader::outcome::Outcome;
+use reader::state::BenchState;
 use text::writer::{Writer, missing};
 
-// Where a report stands between two pieces, beside the memory, the output and the selection's bytes: `next` is the number of the first tag that may still be
-// handed out, `count` says how many bytes the selection has, and `held` how many of the records are the list of failures.
+// Where a report stands between two pieces, beside the memory, the output and the selection's bytes: `held` says how many of the records are the list of
+// failures.
 #[derive(Clone, Copy)]
 pub struct Progress {
-    pub reader: Reader,
-    pub next: usize,
-    pub count: usize,
+    pub state: BenchState,
     pub records: [Record; 8],
     pub held: usize,
     pub over: bool,
@@ -32,9 +30,7 @@ impl Progress {
         ensures { result ≡ started }
     {
         Self {
-            reader: Reader::fresh(),
-            next: 16,
-            count: 0,
+            state: BenchState::fresh(),
             records: [Record::blank(); 8],
             held: 0,
             over: false,
@@ -58,7 +54,7 @@ fn put_line(writer: &mut Writer, input: &[u8], cursor: usize, output: &[u8], cal
     ensures { Puts longest_line (line_by input.now cursor called output.now) writer.old writer.new }
 {
     let outcome = called.outcome;
-    let reader = called.reader;
+    let reader = called.state.reader;
     match outcome {
         Outcome::Answered => put_frame(writer, &output[..called.length]),
         Outcome::Dropped(_) => put_drop(writer, byte_at(input, cursor)),
@@ -69,7 +65,7 @@ fn put_line(writer: &mut Writer, input: &[u8], cursor: usize, output: &[u8], cal
         | Outcome::BadImage
         | Outcome::ShortOutput
         | Outcome::FullTally
-        | Outcome::FullList => writer.put_refused(number_of(outcome)),
+        | Outcome::FullList => writer.put_refused(u64::from(outcome)),
     }
 }
 
@@ -100,36 +96,33 @@ fn write_line(
     memory: &mut [u8],
     output: &mut [u8],
     selection: &mut [u8; 39],
-    places: [Place; 16],
-    tags: usize,
+    population: &Population,
     progress: &mut Progress,
 )
-    ensures { OneLine input.now (state_at memory.old places tags selection.old output.old progress.old)
+    ensures { OneLine input.now (state_at memory.old population.now selection.old output.old progress.old)
         writer.old writer.new
-        (state_at memory.new places tags selection.new output.new progress.new) progress.new.over }
+        (state_at memory.new population.now selection.new output.new progress.new) progress.new.over }
 {
-    let reader = progress.reader;
+    let cursor = progress.state.reader.cursor;
     let list = with_room(progress.records, progress.held);
     let listed = call_beside(
         input,
         memory,
         output,
         selection,
-        places,
-        tags,
-        reader,
-        progress.next,
-        progress.count,
+        population,
+        progress.state,
         8,
         list.held,
     );
     let called = listed.called;
-    put_line(writer, input, reader.cursor, output, called);
+    put_line(writer, input, cursor, output, called);
     *progress = Progress {
-        reader: called.reader,
-        next: called.next,
-        count: called.count,
-        records: add_in(list.records, listed.at, listed.item),
+        state: called.state,
+        records: match listed.failure {
+            Some(record) => add_in(list.records, list.held, record),
+            None => list.records,
+        },
         held: listed.held,
         over: is_last(called.outcome),
     };
@@ -143,17 +136,16 @@ pub fn write(
     output: &mut [u8],
     selection: &mut [u8; 39],
     buffer: &mut [u8],
-    places: [Place; 16],
-    tags: usize,
+    population: &Population,
     progress: &mut Progress,
 ) -> Option<usize>
     ensures { MatchOption result
         (Refused buffer.old buffer.new progress.old progress.new
-        (state_at memory.old places tags selection.old output.old progress.old)
-        (state_at memory.new places tags selection.new output.new progress.new))
+        (state_at memory.old population.now selection.old output.old progress.old)
+        (state_at memory.new population.now selection.new output.new progress.new))
         (λ used. Wrote input.now buffer.old buffer.new
-        (state_at memory.old places tags selection.old output.old progress.old) progress.old.over
-        (state_at memory.new places tags selection.new output.new progress.new) progress.new.over used) }
+        (state_at memory.old population.now selection.old output.old progress.old) progress.old.over
+        (state_at memory.new population.now selection.new output.new progress.new) progress.new.over used) }
 {
     if buffer.len() < LONGEST_LINE {
         return None;
@@ -166,8 +158,7 @@ pub fn write(
             memory,
             output,
             selection,
-            places,
-            tags,
+            population,
             progress,
         );
     }

@@ -3,8 +3,8 @@ use Rattle.std.specs.Prelude.{ℕ, ◌+◌, ◌≤◌, Bool, false, List, ◌≡
 use Rattle.machine.specs.Lent.{selection_in}
 use Rattle.machine.specs.Machine.{state_of}
 use Rattle.frame.specs.Putting.{Put}
-use Rattle.population.specs.declared.places.Place.{Place}
-use Rattle.reader.specs.Readers.{fresh_reader}
+use Rattle.population.specs.declared.places.Population.{Population}
+use Rattle.reader.specs.Readers.{fresh_bench}
 use Rattle.sheet.specs.Items.{no_items}
 use Rattle.sheet.specs.Sheet.{Standing, standing_of, teller}
 use Rattle.sheet.specs.declared.telling.Progress.{Progress}
@@ -15,12 +15,14 @@ abbrev pub longest_part : ℕ
 longest_part = 1024
 
 abbrev pub begun : Progress
-begun = record { reader = fresh_reader; next = 16; count = 0; items = no_items; over = false }
+begun = record { state = fresh_bench; items = no_items; over = false }
 
 -- where a sheet goes on from
-abbrev pub standing_at : List ℕ → List Place → ℕ → List ℕ → List ℕ → Progress → Standing
-standing_at memory places tags bytes output p =
-    standing_of (state_of memory places tags (selection_in bytes p.count) output p.reader p.next) p.items
+abbrev pub standing_at : List ℕ → Population → List ℕ → List ℕ → Progress → Standing
+standing_at memory population bytes output p =
+    standing_of
+    (state_of memory population.places population.tags (selection_in bytes p.state.selected) output p.state.reader p.state.next)
+    p.items
 
 -- one call is made, its part is put at the writer's place, and the sheet stands where the call leaves it
 pub record OnePart (input : List ℕ) (s : Standing) (before after : Writer) (next : Standing) (over : Bool) : Type 0 where

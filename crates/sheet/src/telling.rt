@@ -1,6 +1,5 @@
 // The rows and the foot of the sheet, written in pieces: each call of `write` fills a lent buffer, and hands back where to go on.
 ghost use Rattle.std.specs.Prelude.{◌||◌, [], ◌≡◌, ◌+◌, ◌≤◌, length};
-ghost use Rattle.machine.specs.Machine.{code_at};
 ghost use Rattle.frame.specs.Bytes.{pick};
 ghost use Rattle.sheet.specs.Items.{closes as closes_by};
 ghost use Rattle.sheet.specs.Sheet.{command_with, command_at, last_rows, teller};
@@ -13,8 +12,9 @@ use calls::calling::call;
 use foot::ending::put_end;
 use frame::bytes::{byte_at, fits, number_at};
 use frame::layout;
-use population::places::Place;
-use reader::state::Reader;
+use machine::deciding::code_at;
+use population::places::Population;
+use reader::state::BenchState;
 use report::writing::is_last;
 use rows::row::put_item;
 use tag::commands::Parsed;
@@ -24,9 +24,7 @@ use text::writer::Writer;
 // Where a sheet stands between two pieces, beside the memory, the output and the selection's bytes.
 #[derive(Clone, Copy)]
 pub struct Progress {
-    pub reader: Reader,
-    pub next: usize,
-    pub count: usize,
+    pub state: BenchState,
     pub items: Items,
     pub over: bool,
 }
@@ -36,9 +34,7 @@ impl Progress {
         ensures { result ≡ begun }
     {
         Self {
-            reader: Reader::fresh(),
-            next: 16,
-            count: 0,
+            state: BenchState::fresh(),
             items: Items::none(),
             over: false,
         }
@@ -48,23 +44,13 @@ impl Progress {
 // More than the longest part has: the rows of an item, and the foot.
 const LONGEST_PART: usize = 1024;
 
-// The code of the frame at the cursor; behind the end of the input stands 0.
-fn code_at(input: &[u8], cursor: usize) -> u8
-    ensures { result ≡ code_at input.now cursor }
-{
-    if input.len() < cursor {
-        return 0;
-    }
-    byte_at(input, cursor + layout::CODE)
-}
-
 // A command with this code, whose parameters begin within the input: of a frame that is cut off those that are there.
 fn command_there(input: &[u8], cursor: usize, code: u8) -> Parsed
     requires { cursor + 5 ≤ length input.now }
     ensures { result ≡ command_with input.now cursor code }
 {
     let first = cursor + layout::PARAMETERS;
-    let pl = number_at(&input[cursor..], 3);
+    let pl = usize::from(number_at(&input[cursor..], 3));
     if input.len() - first < pl {
         return parse_command(code, &input[first..]);
     }
@@ -108,40 +94,34 @@ fn write_part(
     memory: &mut [u8],
     output: &mut [u8],
     selection: &mut [u8; 39],
-    places: [Place; 16],
-    tags: usize,
+    population: &Population,
     progress: &mut Progress,
 )
     requires { writer.old.at + longest_part ≤ length writer.old.buffer.now }
-    ensures { OnePart input.now (standing_at memory.old places tags selection.old output.old progress.old)
+    ensures { OnePart input.now (standing_at memory.old population.now selection.old output.old progress.old)
         writer.old writer.new
-        (standing_at memory.new places tags selection.new output.new progress.new) progress.new.over }
+        (standing_at memory.new population.now selection.new output.new progress.new) progress.new.over }
 {
-    let reader = progress.reader;
+    let cursor = progress.state.reader.cursor;
     let items = progress.items;
     let called = call(
         input,
         memory,
         output,
         selection,
-        places,
-        tags,
-        reader,
-        progress.next,
-        progress.count,
+        population,
+        progress.state,
         false,
     );
     let outcome = called.outcome;
     let failing = failing_of(output, outcome);
     let over = is_last(outcome);
-    let told = is_told(over, items, reader.cursor, failing);
+    let told = is_told(over, items, cursor, failing);
     put_last(writer, input, items, told);
-    put_end(writer, input, called.reader, items.count, outcome);
+    put_end(writer, input, called.state.reader, items.count, outcome);
     *progress = Progress {
-        reader: called.reader,
-        next: called.next,
-        count: called.count,
-        items: items_after(items, reader.cursor, failing),
+        state: called.state,
+        items: items_after(items, cursor, failing),
         over,
     };
 }
@@ -153,15 +133,14 @@ pub fn write(
     output: &mut [u8],
     selection: &mut [u8; 39],
     buffer: &mut [u8],
-    places: [Place; 16],
-    tags: usize,
+    population: &Population,
     progress: &mut Progress,
 ) -> usize
     ensures { Wrote
         (fill (teller input.now) longest_part (length buffer.old) progress.old.over
-        (standing_at memory.old places tags selection.old output.old progress.old))
+        (standing_at memory.old population.now selection.old output.old progress.old))
         buffer.old buffer.new result progress.new.over
-        (standing_at memory.new places tags selection.new output.new progress.new) }
+        (standing_at memory.new population.now selection.new output.new progress.new) }
 {
     let mut writer = Writer { buffer, at: 0 };
     while !progress.over && writer.has_room(LONGEST_PART) {
@@ -171,8 +150,7 @@ pub fn write(
             memory,
             output,
             selection,
-            places,
-            tags,
+            population,
             progress,
         );
     }

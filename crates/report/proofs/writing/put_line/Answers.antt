@@ -32,5 +32,5 @@ returns-in-AtEnd c =
 pub returns-in-PastEnd : goal.returns-in-PastEnd
 returns-in-PastEnd c =
     let a = c.args in
-    refused_put a.input.now a.output.now a.cursor a.called _ c.in-PastEnd.is c.number_of.ensures
+    refused_put a.input.now a.output.now a.cursor a.called _ c.in-PastEnd.is c.from.ensures
     (more_room {most = 29} 408 (omega arith) (within_puts c.put_refused.ensures))

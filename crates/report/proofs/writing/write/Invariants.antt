@@ -15,9 +15,9 @@ invariant-loop-progress l =
       same_reference : l.writer.buffer.ghost_name ≡ l.initial.writer.buffer.ghost_name;
       memory_length : length l.memory ≡ length l.initial.memory;
       output_length : length l.output ≡ length l.initial.output;
-      going : Going l.input l.initial.writer.buffer.now (state_at l.initial.memory l.places l.tags l.initial.selection l.initial.output l.initial.progress) l.initial.progress.over l.writer.buffer.now l.writer.at (state_at l.memory l.places l.tags l.selection l.output l.progress) l.progress.over;
+      going : Going l.input l.initial.writer.buffer.now (state_at l.initial.memory l.population l.initial.selection l.initial.output l.initial.progress) l.initial.progress.over l.writer.buffer.now l.writer.at (state_at l.memory l.population l.selection l.output l.progress) l.progress.over;
     }
 
 abbrev pub decreases-loop-progress : goal.decreases-loop-progress
 decreases-loop-progress l =
-    pick l.progress.over 0 (suc (work l.input (state_at l.memory l.places l.tags l.selection l.output l.progress)))
+    pick l.progress.over 0 (suc (work l.input (state_at l.memory l.population l.selection l.output l.progress)))

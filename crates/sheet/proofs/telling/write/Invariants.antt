@@ -13,9 +13,9 @@ invariant-loop-progress l =
       same_reference : l.writer.buffer.ghost_name ≡ l.initial.writer.buffer.ghost_name;
       memory_length : length l.memory ≡ length l.initial.memory;
       output_length : length l.output ≡ length l.initial.output;
-      going : GoingOn l.input l.initial.writer.buffer.now l.initial.progress.over (standing_at l.initial.memory l.places l.tags l.initial.selection l.initial.output l.initial.progress) l.writer.buffer.now l.writer.at l.progress.over (standing_at l.memory l.places l.tags l.selection l.output l.progress);
+      going : GoingOn l.input l.initial.writer.buffer.now l.initial.progress.over (standing_at l.initial.memory l.population l.initial.selection l.initial.output l.initial.progress) l.writer.buffer.now l.writer.at l.progress.over (standing_at l.memory l.population l.selection l.output l.progress);
     }
 
 abbrev pub decreases-loop-progress : goal.decreases-loop-progress
 decreases-loop-progress l =
-    left (teller l.input) l.progress.over (standing_at l.memory l.places l.tags l.selection l.output l.progress)
+    left (teller l.input) l.progress.over (standing_at l.memory l.population l.selection l.output l.progress)
