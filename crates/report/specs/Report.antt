@@ -5,6 +5,7 @@ use Rattle.frame.specs.Bytes.{pick}
 use Rattle.frame.specs.Frames.{sum}
 use Rattle.population.specs.Places.{nowhere}
 use Rattle.population.specs.declared.places.Place.{Place}
+use Rattle.population.specs.declared.places.Population.{Population}
 use Rattle.reader.specs.Readers.{fresh_reader}
 use Rattle.report.specs.Lines.{too_long_line, unreadable_line, line_of, ends}
 use Rattle.report.specs.declared.limits.Unfit.{Unfit}
@@ -54,6 +55,9 @@ laid_out sizes (suc n) = set (laid_out sizes n) n (place_in sizes n)
 
 unfoldable pub places_of : List ℕ → List Place
 places_of sizes = laid_out sizes (pick (ltb 16 (length sizes)) 16 (length sizes))
+
+abbrev pub population_of : List ℕ → Population
+population_of sizes = record { places = places_of sizes; tags = length sizes }
 
 -- where the program begins: an empty selection, an output of 136 bytes, cursor 0, a fresh tally, and no tag to hand out
 unfoldable pub fresh : List ℕ → List ℕ → State

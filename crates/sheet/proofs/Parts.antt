@@ -98,9 +98,9 @@ module _ (input : List ℕ) (s : Standing) (r : Called) (memory bytes output : L
       → over ≡ ends r.outcome → told ≡ (over || closes s.items s.bench.reader.cursor f) → items ≡ items_after s.items s.bench.reader.cursor f
       → before.at + 1024 ≤ length before.buffer.now
       → Puts 300 (pick told (last_rows input s.items) []) before middle
-      → Ends (end_for input r.reader s.items.count r.outcome) middle after
+      → Ends (end_for input r.state.reader s.items.count r.outcome) middle after
       → OnePart input s before after
-      (standing_of (state_of memory s.bench.places s.bench.tags (selection_in bytes r.count) output r.reader r.next) items) over
+      (standing_of (state_of memory s.bench.places s.bench.tags (selection_in bytes r.state.selected) output r.state.reader r.state.next) items) over
   unfolding teller part_for is_told items_by
   one_part {before = before} {middle = middle} {after = after} f over told items f-is over_is told_is items-are room rows end =
       let x : Step = step_of r memory s.bench.places s.bench.tags bytes output in

@@ -11,7 +11,7 @@ use Rattle.reader.specs.Tallies.{fresh_tally}
 use Rattle.reader.specs.declared.tally.Tally.{Tally}
 use Rattle.naming.specs.Commands.{command_text}
 use Rattle.report.specs.Lines.{ends}
-use Rattle.report.specs.Report.{places_of}
+use Rattle.report.specs.Report.{population_of}
 use Rattle.rows.specs.Rows.{dropped_in, item_rows}
 use Rattle.rows.specs.declared.items.Item.{Item}
 use Rattle.sheet.specs.Itemised.{advanced, itemised, rows_from}
@@ -89,7 +89,7 @@ RowsInTurn = (n : ℕ) (input : List ℕ) → RowsOf n input
 
 -- where the functions that write it begin is where the run does: cursor 0, no item, nothing to hand out, an empty selection
 abbrev pub BegunThere : Type 0
-BegunThere = (memory sizes : List ℕ) → standing_at memory (places_of sizes) (length sizes) (replicate 39 0) (replicate 136 0) begun ≡ begun_on memory sizes
+BegunThere = (memory sizes : List ℕ) → standing_at memory (population_of sizes) (replicate 39 0) (replicate 136 0) begun ≡ begun_on memory sizes
 
 -- the number that the foot tells is that of the rows
 abbrev pub ItemsCounted : Type 0
