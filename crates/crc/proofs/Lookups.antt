@@ -28,7 +28,8 @@ module _ (direction : Direction) (near far : List ℕ) where
       let next : (k + 1) * 2 ≡ k * 2 + 2 = omega arith in
       rw (first, second, next, add-zero (k * 2)) (two_next bytes (k * 2) register (omega arith))
 
-  pub one_left : (bytes : List ℕ) (register : ℕ) → length bytes ≡ 1 → table_step direction near register (get_or bytes 0 0) ≡ table_crc direction near far register bytes
+  pub one_left : (bytes : List ℕ) (register : ℕ) → length bytes ≡ 1
+      → table_step direction near register (get_or bytes 0 0) ≡ table_crc direction near far register bytes
   unfolding table_crc
   one_left (b ∷ []) register one = refl
   one_left [] register one = absurd (omega arith)

@@ -78,7 +78,8 @@ module _ (direction : Direction) (polynomial : ℕ) where
       rw (first, second, next, add-zero (k * 2)) (two_bytes_next bytes (k * 2) register (omega arith))
 
   -- the last one, and none
-  pub one_left : (bytes : List ℕ) (register : ℕ) → length bytes ≡ 1 → byte_step direction polynomial register (get_or bytes 0 0) ≡ crc direction polynomial register bytes
+  pub one_left : (bytes : List ℕ) (register : ℕ) → length bytes ≡ 1
+      → byte_step direction polynomial register (get_or bytes 0 0) ≡ crc direction polynomial register bytes
   unfolding crc
   one_left (b ∷ []) register one = refl
   one_left [] register one = absurd (omega arith)

@@ -3,7 +3,8 @@ ghost use Rattle.std.specs.Prelude.{◌≡◌};
 ghost use Rattle.execution.specs.Execution.{Execution};
 ghost use Rattle.execution.specs.Reach.{answerable};
 
-use crate::answers::{give, notify, plain_error, tag_error};
+use crate::answers::plain_error;
+use crate::putting::Answerable;
 use crate::storing::{set, store};
 use frame::bytes::reaches;
 use image::header::epc_span;
@@ -45,9 +46,9 @@ pub fn execute(image: &mut [u8], output: &mut [u8], code: u8, parameters: &[u8])
     }
     match act_of(image, code, parameters) {
         Err(Refusal::Plain(e)) => Executed::Error(plain_error(output, e)),
-        Err(Refusal::Tag(e)) => Executed::Error(tag_error(image, output, e)),
-        Ok(Act::Notify) => Executed::Good(notify(image, output)),
-        Ok(Act::Give { at, length }) => give(image, output, at, length),
+        Err(Refusal::Tag(e)) => Executed::Error(Answerable { image }.tag_error(output, e)),
+        Ok(Act::Notify) => Executed::Good(Answerable { image }.notify(output)),
+        Ok(Act::Give { at, length }) => Answerable { image }.give(output, at, length),
         Ok(Act::Store { at }) => store(image, output, parameters, at),
         Ok(
             Act::Set {

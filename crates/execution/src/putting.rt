@@ -22,24 +22,33 @@ pub(crate) fn put_bytes(bytes: &mut [u8], at: usize, count: usize, value: usize)
     bytes[at + (count - 1)] = (value % 256) as u8;
 }
 
-// The PC and the EPC: EPC word 1 and the L words that follow it.
-pub(crate) fn put_pc_and_epc(image: &[u8], output: &mut [u8], at: usize) -> usize
-    requires { (has_epc image.now ≡ true) × (at + 64 ≤ length output.old) }
-    ensures put { Put (pc_and_epc image.now) at output.old output.new result }
-    ensures upper_bound { result ≤ at + 64 }
-{
-    let place = epc_span(image);
-    copy(image, place.from, place.count, output, at);
-    at + place.count
+// An image that has what every answer needs: the PC and the L words behind it are there.
+#[derive(Clone, Copy)]
+pub(crate) struct Answerable<'a> {
+    pub(crate) image: &'a [u8],
+    pub ghost has_epc: { has_epc image.now ≡ true },
 }
 
-// The tail: a byte that counts the bytes of PC and EPC, and these.
-pub(crate) fn put_tail(image: &[u8], output: &mut [u8], at: usize) -> usize
-    requires { (has_epc image.now ≡ true) × (at + 65 ≤ length output.old) }
-    ensures put { Put (tail image.now) at output.old output.new result }
-    ensures upper_bound { result ≤ at + 65 }
-{
-    let place = epc_span(image);
-    output[at] = place.count as u8;
-    put_pc_and_epc(image, output, at + 1)
+impl Answerable<'_> {
+    // The PC and the EPC: EPC word 1 and the L words that follow it.
+    pub(crate) fn put_pc_and_epc(self, output: &mut [u8], at: usize) -> usize
+        requires { at + 64 ≤ length output.old }
+        ensures put { Put (pc_and_epc self.entry.image.now) at output.old output.new result }
+        ensures upper_bound { result ≤ at + 64 }
+    {
+        let place = epc_span(self.image);
+        copy(self.image, place.from, place.count, output, at);
+        at + place.count
+    }
+
+    // The tail: a byte that counts the bytes of PC and EPC, and these.
+    pub(crate) fn put_tail(self, output: &mut [u8], at: usize) -> usize
+        requires { at + 65 ≤ length output.old }
+        ensures put { Put (tail self.entry.image.now) at output.old output.new result }
+        ensures upper_bound { result ≤ at + 65 }
+    {
+        let place = epc_span(self.image);
+        output[at] = place.count as u8;
+        self.put_pc_and_epc(output, at + 1)
+    }
 }

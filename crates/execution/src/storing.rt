@@ -6,9 +6,8 @@ ghost use Rattle.tag.specs.declared.commands.Act.TheVariants.{Store, Set};
 ghost use Rattle.execution.specs.Execution.{Acted};
 ghost use Rattle.execution.specs.Reach.{has_epc};
 
-use crate::answers::done;
 use crate::execute::Executed;
-use crate::putting::put_bytes;
+use crate::putting::{Answerable, put_bytes};
 use frame::bytes::{number_at, reaches};
 use frame::copying::copy;
 use image::crc_word::crc_of_epc;
@@ -38,7 +37,7 @@ pub(crate) fn store(image: &mut [u8], output: &mut [u8], parameters: &[u8], at: 
         return Executed::Refused;
     }
     let word = usize::from(number_at(image, 10));
-    let length = done(image, output, 0x49);
+    let length = Answerable { image }.done(output, 0x49);
     copy(parameters, 9, n, image, at);
     keep_crc(image, parameters[4], word);
     Executed::Good(length)
@@ -59,7 +58,7 @@ pub(crate) fn set(
     if !reaches(image, at, count) {
         return Executed::Refused;
     }
-    let length = done(image, output, code);
+    let length = Answerable { image }.done(output, code);
     put_bytes(image, at, count, value);
     Executed::Good(length)
 }

@@ -31,14 +31,16 @@ present true e rest is told = cc
 present false e rest is told = refl
 
 -- the state, and then the password
-pub refused : (gone wrong : Bool) (e f : Refusal) {x : Refusal} {r : Result ⊤ Refusal} (rest : Verdict) → r ≡ pick gone (Err e) (pick wrong (Err f) (Ok tt)) → r ≡ Err x
+pub refused : (gone wrong : Bool) (e f : Refusal) {x : Refusal} {r : Result ⊤ Refusal} (rest : Verdict)
+    → r ≡ pick gone (Err e) (pick wrong (Err f) (Ok tt)) → r ≡ Err x
     → Err x ≡ pick gone (Err e) (pick wrong (Err f) rest)
 unfolding pick
 refused true wrong e f rest is told = cc
 refused false true e f rest is told = cc
 refused false false e f rest is told = cc
 
-pub admitted : (gone wrong : Bool) (e f : Refusal) {r : Result ⊤ Refusal} {u : ⊤} (rest : Verdict) → r ≡ pick gone (Err e) (pick wrong (Err f) (Ok tt)) → r ≡ Ok u
+pub admitted : (gone wrong : Bool) (e f : Refusal) {r : Result ⊤ Refusal} {u : ⊤} (rest : Verdict)
+    → r ≡ pick gone (Err e) (pick wrong (Err f) (Ok tt)) → r ≡ Ok u
     → rest ≡ pick gone (Err e) (pick wrong (Err f) rest)
 unfolding pick
 admitted true wrong e f rest is told = cc

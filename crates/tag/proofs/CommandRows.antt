@@ -211,7 +211,9 @@ lock_rows image p =
 
 -- ---- 0x65
 
-kill_pick : (a b : Bool) → kill_act (pick a NoneStored (pick b Equal Different)) ≡ pick a (Err (Tag NoKillPassword)) (pick (not b) (Err (Plain NotKilled)) (Ok (Set 0x65 22 1 1)))
+kill_pick : (a b : Bool)
+    → kill_act (pick a NoneStored (pick b Equal Different))
+    ≡ pick a (Err (Tag NoKillPassword)) (pick (not b) (Err (Plain NotKilled)) (Ok (Set 0x65 22 1 1)))
 unfolding pick kill_act
 kill_pick true b = refl
 kill_pick false true = refl
@@ -221,7 +223,8 @@ kill_acts : (image p : List ℕ)
     → act_of image 0x65 p
     ≡ pick (not (eqb (length p) 4)) (Err (Plain NoCommand))
     (pick (not (eqb (byte image 22) 0)) (Err (Plain NotKilled))
-    (pick (eqb (kill_stored image) 0) (Err (Tag NoKillPassword)) (pick (not (eqb (double p 0) (kill_stored image))) (Err (Plain NotKilled)) (Ok (Set 0x65 22 1 1)))))
+    (pick (eqb (kill_stored image) 0) (Err (Tag NoKillPassword))
+    (pick (not (eqb (double p 0) (kill_stored image))) (Err (Plain NotKilled)) (Ok (Set 0x65 22 1 1)))))
 unfolding act_of parse parse_kill verdict password_in kill_verdict if_present kill_standing kill_standing_of kill_password view bank_at gone
 kill_acts image p = simp (pick_true, pick_false, pick_not {X = Parsed} (eqb (length p) 4), verdict_pick, kill_pick)
 

@@ -23,7 +23,8 @@ unfolding outcome answer changed frame_of checked check_of bytes_of tail pc_and_
 tag_error_is image p e = refl
 
 -- the definition's test is the row's; the rows behind it are reached where it fails
-pub row : (image p : List ℕ) (x : Verdict) {value : List ℕ × List ℕ} (y : Verdict) (rows : List (Bool × (List ℕ × List ℕ))) (last : List ℕ × List ℕ) {a b : Bool}
+pub row : (image p : List ℕ) (x : Verdict) {value : List ℕ × List ℕ}
+    (y : Verdict) (rows : List (Bool × (List ℕ × List ℕ))) (last : List ℕ × List ℕ) {a b : Bool}
     → outcome image p x ≡ value
     → a ≡ b
     → (b ≡ false → outcome image p y ≡ first_of rows last)

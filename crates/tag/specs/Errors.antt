@@ -16,8 +16,8 @@ plain_byte NotLocked = 0x13
 plain_byte NotKilled = 0x12
 plain_byte NoCommand = 0x17
 
--- "Wrong password: tag error 16." 0x39: "Pointer + count above the bank's words: A3." "A touched password region not readable: A4." 0x49: "Range: B3." "A touched
--- region not writable: B4." 0x82: "Mask touches User and User has 0 words: C3." P3: "refuses the whole command with C4". 0x65: "Stored one zero: D0."
+-- "Wrong password: tag error 16." 0x39: "Pointer + count above the bank's words: A3." "A touched password region not readable: A4." 0x49: "Range: B3."
+-- "A touched region not writable: B4." 0x82: "Mask touches User and User has 0 words: C3." P3: "refuses the whole command with C4". 0x65: "Stored one zero: D0."
 unfoldable pub tag_byte : TagError → ℕ
 tag_byte WrongPassword = 0x16
 tag_byte ReadOutside = 0xA3

@@ -18,4 +18,5 @@ returns c =
     let bytes : Bytes given.bytes.now = λ i. omega (arith, c.type_inv.bytes i) in
     let word : given.register < 0x10000 = search rules in
     c.crc_of.ensures
-    ∙ by_tables given.direction (polynomial_of given.direction) (small given.direction) c.near.result c.far.result c.near.ensures c.far.ensures given.register given.bytes.now word bytes
+    ∙ by_tables given.direction (polynomial_of given.direction) (small given.direction)
+    c.near.result c.far.result c.near.ensures c.far.ensures given.register given.bytes.now word bytes

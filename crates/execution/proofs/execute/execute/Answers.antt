@@ -13,17 +13,14 @@ returns-then-output-lt136 c = refused_short _ _ _ _ c.if-output-lt136.true
 pub returns-then-not-is_answerable : goal.returns-then-not-is_answerable
 returns-then-not-is_answerable c = refused_out _ _ _ _ c.if-output-lt136.false (not_holds c.if-not-is_answerable.true-raw c.is_answerable.ensures)
 
-pub tag_error-requires : goal.tag_error-requires
-tag_error-requires c =
-    (answerable_epc _ (not_fails c.if-not-is_answerable.false-raw c.is_answerable.ensures), c.if-output-lt136.false)
+pub invariant_of-tag_error : goal.invariant_of-tag_error
+invariant_of-tag_error c = record { has_epc = answerable_epc _ (not_fails c.if-not-is_answerable.false-raw c.is_answerable.ensures) }
 
-pub notify-requires : goal.notify-requires
-notify-requires c =
-    (answerable_epc _ (not_fails c.if-not-is_answerable.false-raw c.is_answerable.ensures), c.if-output-lt136.false)
+pub invariant_of-notify : goal.invariant_of-notify
+invariant_of-notify c = record { has_epc = answerable_epc _ (not_fails c.if-not-is_answerable.false-raw c.is_answerable.ensures) }
 
-pub give-requires : goal.give-requires
-give-requires c =
-    (answerable_epc _ (not_fails c.if-not-is_answerable.false-raw c.is_answerable.ensures), c.if-output-lt136.false)
+pub invariant_of-give : goal.invariant_of-give
+invariant_of-give c = record { has_epc = answerable_epc _ (not_fails c.if-not-is_answerable.false-raw c.is_answerable.ensures) }
 
 pub store-requires : goal.store-requires
 store-requires c =

@@ -2,7 +2,7 @@
 use lib.ListN.{length-set}
 use native.Mathlib.Omega.{arith}
 use Rattle.execution.proofs.Pieces.{done_closed}
-use Rattle.execution.proofs.answers.done.Goals as goal
+use Rattle.execution.proofs.putting.Answerable.done.Goals as goal
 
 pub bounds-output-next : goal.bounds-output-next
 bounds-output-next c = omega (arith, c.put_tail-next.ensures.upper_bound)
@@ -12,4 +12,4 @@ shape_of-output c = omega (arith, length-set c.put_tail-next.new.output c.put_ta
 
 pub returns : goal.returns
 returns c =
-    done_closed _ c.requires.1 _ _ _ _ c.put_tail-next.ensures.put c.put_tail-next.ensures.upper_bound _ _ c.close.ensures
+    done_closed _ c.requires _ _ _ _ c.put_tail-next.ensures.put c.put_tail-next.ensures.upper_bound _ _ c.close.ensures

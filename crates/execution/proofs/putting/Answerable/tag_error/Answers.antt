@@ -2,11 +2,10 @@
 use lib.ListN.{length-set}
 use native.Mathlib.Omega.{arith}
 use Rattle.execution.proofs.Pieces.{tag_error_closed}
-use borrow.Author.Rules.{rules}
-use Rattle.execution.proofs.answers.tag_error.Goals as goal
+use Rattle.execution.proofs.putting.Answerable.tag_error.Goals as goal
 
 pub put_tail-next-requires : goal.put_tail-next-requires
-put_tail-next-requires c = (search rules, simp length-set (omega arith))
+put_tail-next-requires c = simp length-set (omega arith)
 
 pub shape_of-output : goal.shape_of-output
 shape_of-output c =
@@ -14,4 +13,4 @@ shape_of-output c =
 
 pub returns : goal.returns
 returns c =
-    tag_error_closed _ c.requires.1 _ _ _ c.from.ensures _ _ c.put_tail-next.ensures.put c.put_tail-next.ensures.upper_bound _ _ c.close.ensures
+    tag_error_closed _ c.requires _ _ _ c.from.ensures _ _ c.put_tail-next.ensures.put c.put_tail-next.ensures.upper_bound _ _ c.close.ensures

@@ -4,11 +4,10 @@ use mathlib.Core.Path.{◌∙◌}
 use native.Mathlib.Omega.{arith}
 use Rattle.frame.proofs.Stores.{length_put}
 use Rattle.execution.proofs.Tails.{tail_put}
-use borrow.Author.Rules.{rules}
-use Rattle.execution.proofs.putting.put_tail.Goals as goal
+use Rattle.execution.proofs.putting.Answerable.put_tail.Goals as goal
 
 pub put_pc_and_epc-requires : goal.put_pc_and_epc-requires
-put_pc_and_epc-requires c = (search rules, simp length-set (omega arith))
+put_pc_and_epc-requires c = simp length-set (omega arith)
 
 pub shape_of-output : goal.shape_of-output
 shape_of-output c = length_put _ _ _ _ _ c.put_pc_and_epc.ensures.put ∙ simp length-set
@@ -16,6 +15,6 @@ shape_of-output c = length_put _ _ _ _ _ c.put_pc_and_epc.ensures.put ∙ simp l
 pub returns : goal.returns
 returns c =
     record {
-      put = tail_put _ c.requires.0 _ c.epc_span-place.ensures _ _ _ _ c.put_pc_and_epc.ensures.put;
+      put = tail_put _ c.args.self.has_epc _ c.epc_span-place.ensures _ _ _ _ c.put_pc_and_epc.ensures.put;
       upper_bound = omega (arith, c.put_pc_and_epc.ensures.upper_bound);
     }
