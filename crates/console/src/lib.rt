@@ -5,7 +5,7 @@ ghost use Rattle.std.specs.Prelude.{◌≤◌, length};
 ghost use Rattle.console.specs.Console.{Ran, RanFrom, Noticed};
 
 use places::lay_out;
-use population::places::Place;
+use population::places::Population;
 use report::limits::{Unfit, judge, write_notice};
 use report::writing::{Progress, write};
 
@@ -21,11 +21,10 @@ fn print_pieces(
     memory: &mut [u8],
     output: &mut [u8],
     buffer: &mut [u8],
-    places: [Place; 16],
-    tags: usize,
+    population: &Population,
 ) -> bool
     requires { 408 ≤ length buffer.old }
-    ensures { RanFrom commands.now memory.old places tags output.old memory.new result }
+    ensures { RanFrom commands.now memory.old population.now output.old memory.new result }
 {
     let mut selection = [0u8; 39];
     let mut progress = Progress::start();
@@ -36,8 +35,7 @@ fn print_pieces(
             output,
             &mut selection,
             buffer,
-            places,
-            tags,
+            population,
             &mut progress,
         ) else {
             return false;
@@ -67,8 +65,11 @@ pub fn print(readable: bool, commands: &[u8], memory: &mut [u8], sizes: &[u64]) 
     match files {
         Ok(()) => {
             let mut output = [0u8; 136];
-            let row = lay_out(sizes);
-            print_pieces(commands, memory, &mut output, &mut buffer, row, sizes.len())
+            let population = Population {
+                places: lay_out(sizes),
+                tags: sizes.len(),
+            };
+            print_pieces(commands, memory, &mut output, &mut buffer, &population)
         }
         Err(_) => print_notice(files, &mut buffer),
     }

@@ -8,10 +8,10 @@ ghost use Rattle.sheet.specs.Writing.{begun, standing_at};
 
 use console::STDOUT_FILENO;
 use console::places::places_of;
-use files::read_file;
-use files::tags::read_tags;
+use files::tags::{Tags, read_tags};
+use files::{ReadError, read_file, read_or_empty};
 use page::beginning::begin;
-use population::places::Place;
+use population::places::Population;
 use sheet::telling::{Progress, write};
 
 // Piece by piece. Where standard output refuses some of the sheet nothing more is written, so that no sheet ends with its last line and lacks a row.
@@ -20,11 +20,10 @@ fn print_rows(
     memory: &mut [u8],
     output: &mut [u8],
     buffer: &mut [u8],
-    places: [Place; 16],
-    tags: usize,
+    population: &Population,
 ) -> bool
     requires { 1024 ≤ length buffer.old }
-    ensures { LeftBySome commands.now (standing_at memory.old places tags (replicate 39 0) output.old begun) memory.new }
+    ensures { LeftBySome commands.now (standing_at memory.old population.now (replicate 39 0) output.old begun) memory.new }
 {
     let mut selection = [0u8; 39];
     let mut progress = Progress::start();
@@ -35,8 +34,7 @@ fn print_rows(
             output,
             &mut selection,
             buffer,
-            places,
-            tags,
+            population,
             &mut progress,
         );
         if !io::write_all(STDOUT_FILENO, &buffer[..used]) {
@@ -69,14 +67,11 @@ fn print(numbered: bool, readable: bool, commands: &[u8], memory: &mut [u8], siz
         return true;
     }
     let mut output = [0u8; 136];
-    print_rows(
-        commands,
-        memory,
-        &mut output,
-        &mut buffer,
+    let population = Population {
         places,
-        sizes.len(),
-    )
+        tags: sizes.len(),
+    };
+    print_rows(commands, memory, &mut output, &mut buffer, &population)
 }
 
 // One tag in tag.img, or else a crate. Where no file of a tag can be opened it is one tag, and its file counts as empty. Each buffer has room for more
@@ -84,43 +79,28 @@ fn print(numbered: bool, readable: bool, commands: &[u8], memory: &mut [u8], siz
 fn main(rt: HostRuntime) {
     let mut commands = io::large_buffer();
     let mut memory = io::large_buffer();
-    let first = read_file(&rt, b"commands.bin", &mut commands);
-    let length = first.length;
-    let one = read_file(&rt, b"tag.img", &mut memory);
-    let size = one.length;
-    if one.opened {
-        let readable = first.readable && one.readable;
-        let sizes = [size as u64; 1];
-        print(
-            false,
-            readable,
-            &commands[..length],
-            &mut memory[..size],
-            &sizes,
-        );
-        return;
-    }
     let mut sizes = [0u64; 17];
-    let tags = read_tags(&rt, &mut memory, &mut sizes);
-    let readable = first.readable && tags.readable;
-    let used = tags.length;
-    let count = tags.count;
-    if count == 0 {
-        let none = [0u64; 1];
-        print(
-            false,
-            readable,
-            &commands[..length],
-            &mut memory[..used],
-            &none,
-        );
-        return;
+    let length = read_or_empty(&rt, b"commands.bin", &mut commands);
+    let one = read_file(&rt, b"tag.img", &mut memory);
+    if let Ok(size) = one {
+        sizes[0] = size as u64;
     }
+    let tags = match one {
+        Ok(length) => Ok(Tags { count: 1, length }),
+        Err(ReadError::NotOpened) => read_tags(&rt, &mut memory, &mut sizes),
+        Err(unreadable) => Err(unreadable),
+    };
+    let (Ok(length), Ok(tags)) = (length, tags) else {
+        print(false, false, &[], &mut [], &[]);
+        return;
+    };
+    let numbered = one.is_err() && tags.count != 0;
+    let count = tags.count.max(1);
     print(
+        numbered,
         true,
-        readable,
         &commands[..length],
-        &mut memory[..used],
+        &mut memory[..tags.length],
         &sizes[..count],
     );
 }

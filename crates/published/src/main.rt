@@ -2,7 +2,7 @@
 // source. The stored output was written from the source: it is the published frames.
 #![tactic(auto)]
 
-use population::places::Place;
+use population::places::{Place, Population};
 use report::writing::{Progress, write};
 
 mod commands;
@@ -19,6 +19,7 @@ fn run(heading: &[u8], tag: [u8; 86], command: &[u8]) {
     let mut line = [0u8; 408];
     let mut places = [Place { from: 0, size: 0 }; 16];
     places[0] = Place { from: 0, size: 86 };
+    let population = Population { places, tags: 1 };
     let mut progress = Progress::start();
     let Some(used) = write(
         command,
@@ -26,8 +27,7 @@ fn run(heading: &[u8], tag: [u8; 86], command: &[u8]) {
         &mut output,
         &mut selection,
         &mut line,
-        places,
-        1,
+        &population,
         &mut progress,
     ) else {
         return;

@@ -7,8 +7,8 @@ use Rattle.console.proofs.print_pieces.Given as goal
 
 abbrev pub invariant-loop-progress : goal.invariant-loop-progress
 invariant-loop-progress l =
-    Going l.commands l.places l.tags l.initial.memory l.initial.output l.initial.buffer l.memory l.output l.selection l.buffer l.progress
+    Going l.commands l.population l.initial.memory l.initial.output l.initial.buffer l.memory l.output l.selection l.buffer l.progress
 
 abbrev pub decreases-loop-progress : goal.decreases-loop-progress
 decreases-loop-progress l =
-    length (steps_from l.commands l.progress.over (state_at l.memory l.places l.tags l.selection l.output l.progress))
+    length (steps_from l.commands l.progress.over (state_at l.memory l.population l.selection l.output l.progress))

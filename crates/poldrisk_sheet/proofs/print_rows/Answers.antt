@@ -1,40 +1,39 @@
 -- `print_rows` meets its contract: each piece is written from where the one before left off, by calls of the run, and the sheet ends.
 use lib.Seq.{length-take-le}
 use mathlib.Core.Path.{sym}
-use borrow.Author.Tests.{not-true}
 use Rattle.poldrisk_sheet.proofs.Printing.{going, left_by, used_there, goes_on, nearer}
 use Rattle.poldrisk_sheet.proofs.print_rows.Goals as goal
 
 pub loop-progress-init : goal.loop-progress-init
-loop-progress-init c = going _ _ _ _ _ _ _ _ c.start-progress.ensures
+loop-progress-init c = going _ _ _ _ _ _ _ c.start-progress.ensures
 
 pub slice_bounds-write_all-end : goal.slice_bounds-write_all-end
 slice_bounds-write_all-end c =
     let made = c.write-used in
-    used_there _ _ _ _ _ _ _ _ _ _ _ _ _ _ _ _ _ c.loop-progress.invariant c.requires made.ensures made.auto.memory made.auto.output made.auto.buffer
+    used_there _ _ _ _ _ _ _ _ _ _ _ _ _ _ _ _ c.loop-progress.invariant c.requires made.ensures made.auto.memory made.auto.output made.auto.buffer
 
 pub slice_bounds-write_all-end-in-loop-progress : goal.slice_bounds-write_all-end-in-loop-progress
 slice_bounds-write_all-end-in-loop-progress c =
     let made = c.write-used in
-    sym (length-take-le _ _ (used_there _ _ _ _ _ _ _ _ _ _ _ _ _ _ _ _ _ c.loop-progress.invariant c.requires
+    sym (length-take-le _ _ (used_there _ _ _ _ _ _ _ _ _ _ _ _ _ _ _ _ c.loop-progress.invariant c.requires
     made.ensures made.auto.memory made.auto.output made.auto.buffer))
 
 pub returns-then-not-write_all : goal.returns-then-not-write_all
 returns-then-not-write_all c =
     let made = c.write-used in
-    left_by _ _ _ _ _ _ _ _ _ _ _ (goes_on _ _ _ _ _ _ _ _ _ _ _ _ _ _ _ _ _ c.loop-progress.invariant c.requires
+    left_by _ _ _ _ _ _ _ _ _ _ (goes_on _ _ _ _ _ _ _ _ _ _ _ _ _ _ _ _ c.loop-progress.invariant c.requires
     made.ensures made.auto.memory made.auto.output made.auto.buffer)
 
 pub loop-progress-smaller : goal.loop-progress-smaller
 loop-progress-smaller c =
     let made = c.write-used in
-    nearer _ _ _ _ _ _ _ _ _ _ _ _ _ _ _ _ _ c.loop-progress.invariant c.requires
-    made.ensures made.auto.memory made.auto.output made.auto.buffer (not-true _ c.loop-progress-test.true)
+    nearer _ _ _ _ _ _ _ _ _ _ _ _ _ _ _ _ c.loop-progress.invariant c.requires
+    made.ensures made.auto.memory made.auto.output made.auto.buffer c.loop-progress-test.true
 
 pub loop-progress-preserved : goal.loop-progress-preserved
 loop-progress-preserved c =
     let made = c.write-used in
-    goes_on _ _ _ _ _ _ _ _ _ _ _ _ _ _ _ _ _ c.loop-progress.invariant c.requires made.ensures made.auto.memory made.auto.output made.auto.buffer
+    goes_on _ _ _ _ _ _ _ _ _ _ _ _ _ _ _ _ c.loop-progress.invariant c.requires made.ensures made.auto.memory made.auto.output made.auto.buffer
 
 pub returns : goal.returns
-returns c = left_by _ _ _ _ _ _ _ _ _ _ _ c.loop-progress.invariant
+returns c = left_by _ _ _ _ _ _ _ _ _ _ c.loop-progress.invariant
