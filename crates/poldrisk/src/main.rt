@@ -13,5 +13,10 @@ fn main(rt: HostRuntime) {
         console::print(false, &[], &mut [], &[]);
         return;
     };
-    console::print(true, &commands[..length], &mut image[..size], &[size as u64]);
+    console::print(
+        true,
+        &commands[..length],
+        &mut image[..size],
+        &[size as u64],
+    );
 }
