@@ -1,7 +1,6 @@
 -- `print_rows` meets its contract: each piece is written from where the one before left off, by calls of the run, and the sheet ends.
 use lib.Seq.{length-take-le}
 use mathlib.Core.Path.{sym}
-use borrow.Author.Tests.{not-true}
 use Rattle.poldrisk_sheet.proofs.Printing.{going, left_by, used_there, goes_on, nearer}
 use Rattle.poldrisk_sheet.proofs.print_rows.Goals as goal
 
@@ -29,7 +28,7 @@ pub loop-progress-smaller : goal.loop-progress-smaller
 loop-progress-smaller c =
     let made = c.write-used in
     nearer _ _ _ _ _ _ _ _ _ _ _ _ _ _ _ _ _ c.loop-progress.invariant c.requires
-    made.ensures made.auto.memory made.auto.output made.auto.buffer (not-true _ c.loop-progress-test.true)
+    made.ensures made.auto.memory made.auto.output made.auto.buffer c.loop-progress-test.true
 
 pub loop-progress-preserved : goal.loop-progress-preserved
 loop-progress-preserved c =
