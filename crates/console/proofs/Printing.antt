@@ -77,7 +77,8 @@ module _ (commands : List ℕ) (places : List Place) (tags : ℕ) where
   module _ (memory₀ output₀ buffer₀ memory output bytes buffer memory' output' bytes' buffer' : List ℕ) (progress progress' : Progress) (used : ℕ)
       (g : Going memory₀ output₀ buffer₀ memory output bytes buffer progress)
       (room : 408 ≤ length buffer₀)
-      (w : Wrote commands buffer buffer' (state_at memory places tags bytes output progress) progress.over (state_at memory' places tags bytes' output' progress') progress'.over used)
+      (w : Wrote commands buffer buffer' (state_at memory places tags bytes output progress) progress.over
+      (state_at memory' places tags bytes' output' progress') progress'.over used)
       (same_memory : length memory' ≡ length memory)
       (same_output : length output' ≡ length output)
       (same-buffer : length buffer' ≡ length buffer) where

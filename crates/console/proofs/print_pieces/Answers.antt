@@ -10,7 +10,8 @@ loop-progress-init c = going _ _ _ _ _ _ _ _ c.start-progress.ensures
 pub slice_bounds-write_all-end : goal.slice_bounds-write_all-end
 slice_bounds-write_all-end c =
     let made = c.write in
-    used_there _ _ _ _ _ _ _ _ _ _ _ _ _ _ _ made.new.progress _ c.loop-progress.invariant c.requires c.in-Some.ensures made.auto.memory made.auto.output made.auto.buffer
+    used_there _ _ _ _ _ _ _ _ _ _ _ _ _ _ _ made.new.progress _ c.loop-progress.invariant c.requires c.in-Some.ensures
+    made.auto.memory made.auto.output made.auto.buffer
 
 pub slice_bounds-write_all-end-in-loop-progress : goal.slice_bounds-write_all-end-in-loop-progress
 slice_bounds-write_all-end-in-loop-progress c =
@@ -33,7 +34,8 @@ loop-progress-smaller c =
 pub loop-progress-preserved : goal.loop-progress-preserved
 loop-progress-preserved c =
     let made = c.write in
-    goes_on _ _ _ _ _ _ _ _ _ _ _ _ _ _ _ made.new.progress _ c.loop-progress.invariant c.requires c.in-Some.ensures made.auto.memory made.auto.output made.auto.buffer
+    goes_on _ _ _ _ _ _ _ _ _ _ _ _ _ _ _ made.new.progress _ c.loop-progress.invariant c.requires c.in-Some.ensures
+    made.auto.memory made.auto.output made.auto.buffer
 
 pub returns : goal.returns
 returns c = finished _ _ _ _ _ _ _ _ _ _ _ c.loop-progress.invariant c.loop-progress-test.false
