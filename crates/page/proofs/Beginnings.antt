@@ -50,7 +50,8 @@ module _ (before : List ℕ) where
     notice_short (Err TooLong) = omega arith
     notice_short (Ok u) = omega arith
 
-    pub notice_begins : (files : Result (Unit {0}) Unfit) → Told (notice_of files) before after used → Begins (notice_of files) false before after (begun_of used false)
+    pub notice_begins : (files : Result (Unit {0}) Unfit) → Told (notice_of files) before after used
+        → Begins (notice_of files) false before after (begun_of used false)
     notice_begins files told =
         let less = notice_short files in
         let there = told.long (omega arith) in
@@ -98,7 +99,8 @@ module _ (readable is_crate : Bool) (input memory sizes : List ℕ) (places : Li
   unfolding first_lines rows_follow
   unfit_page unfit e begins = known_page (Err unfit) e begins
 
-  pub run_page : (u : Unit {0}) → files ≡ Ok u → Begins (run_lines is_crate input memory sizes places) (good_population memory (length sizes) places) before after r → Page
+  pub run_page : (u : Unit {0}) → files ≡ Ok u
+      → Begins (run_lines is_crate input memory sizes places) (good_population memory (length sizes) places) before after r → Page
   unfolding first_lines rows_follow
   run_page u e begins = known_page (Ok u) e begins
 

@@ -57,7 +57,8 @@ module _ (is_crate : Bool) (commands memory sizes rooms : List ℕ) where
 
     unreadable_page : readable ≡ false → Printed
     unfolding files_of first_lines rows_follow notice_of printed_sheet
-    unreadable_page not-read = known_page (Err Unreadable) (rw (not-read, pick_false)) (rw pick_false (append-nil unreadable_line ∙ sym (rw (not-read, pick_false))))
+    unreadable_page not-read =
+        known_page (Err Unreadable) (rw (not-read, pick_false)) (rw pick_false (append-nil unreadable_line ∙ sym (rw (not-read, pick_false))))
 
     long_page : readable ≡ true → too_long (length commands) sizes ≡ true → Printed
     unfolding files_of first_lines rows_follow notice_of printed_sheet

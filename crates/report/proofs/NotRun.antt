@@ -92,7 +92,8 @@ unfolding files_of too_long pick
 fit_short false commands sizes h = let z : ◌≡◌ {A = ℕ} 0 1 = cc in absurd (omega arith)
 fit_short true commands sizes h =
     either (ltb 32768 commands || any_long sizes)
-    (λ long. let bad : ◌≡◌ {A = Result (Unit {0}) Unfit} (Err TooLong) (Ok tt) = sym (ap (λ (b : Bool). pick b (Err TooLong) (Ok tt)) long) ∙ h in let z : ◌≡◌ {A = ℕ} 0 1 = cc in absurd (omega arith))
+    (λ long. let bad : ◌≡◌ {A = Result (Unit {0}) Unfit} (Err TooLong) (Ok tt)
+    = sym (ap (λ (b : Bool). pick b (Err TooLong) (Ok tt)) long) ∙ h in let z : ◌≡◌ {A = ℕ} 0 1 = cc in absurd (omega arith))
     (λ short. (or_neither (ltb 32768 commands) (any_long sizes) short).1)
 
 -- ---- the claims

@@ -85,7 +85,8 @@ module _ (input before : List ℕ) (start : State) (over₀ : Bool) where
   goes {w = w} {after = after} s next over last g not-over room one =
       let put = one.line.put room in
       rw (one.next_is, one.over_is)
-      (further w.buffer.now after.buffer.now w.at after.at s (rw not-over at g) (omega (arith, g.same)) (omega (arith, g.same, put.next_is, one.line.short)) put)
+      (further w.buffer.now after.buffer.now w.at after.at s (rw not-over at g) (omega (arith, g.same))
+      (omega (arith, g.same, put.next_is, one.line.short)) put)
 
 -- each line leaves less to write
 pub falls : (input : List ℕ) {w after : Writer} (s next : State) (over last : Bool) → over ≡ false → OneLine input s w after next last

@@ -34,7 +34,8 @@ pub error_row_put : (n first code error : ℕ) (parsed : Parsed) {w0 w1 w2 w3 w4
     → Puts 100 boxed_row w0 w1 → PutsRight 4 n (standing w1 w0.at) w2 → Puts 20 (decimal first) (standing w2 (w0.at + 7)) w3
     → LaysWithin 59 (command_text code parsed) (standing w3 (w0.at + 20)) w4 → LaysWithin 36 (error_text error) (standing w4 (w0.at + 50)) w5
     → Puts 100 (error_row n first code parsed error) w0 (standing w5 w1.at)
-error_row_put n first code error parsed {w0 = w0} {w1 = w1} {w2 = w2} {w3 = w3} {w4 = w4} {w5 = w5} n_small first-small boxed number range command result =
+error_row_put n first code error parsed {w0 = w0} {w1 = w1} {w2 = w2} {w3 = w3} {w4 = w4} {w5 = w5} n_small first-small boxed number range command
+    result =
     let name = within_puts command in
     let words = within_puts result in
     let digits = decimal_64 n n_small in
@@ -43,8 +44,9 @@ error_row_put n first code error parsed {w0 = w0} {w1 = w1} {w2 = w2} {w3 = w3} 
       same_length = words.same_length ∙ name.same_length ∙ range.same_length ∙ number.same_length ∙ boxed.same_length;
       short = length_error n first code error parsed;
       put = λ room.
-          error_row_lem w0.at w0.buffer.now w1.at n first code error parsed w1.buffer.now w2.buffer.now w3.buffer.now w4.buffer.now w5.buffer.now w3.at w4.at w5.at
-          (boxed.put room) digits (numbers n (omega (arith, boxed.same_length)) (omega (arith, boxed.same_length)) number) (decimal_64 first first-small)
+          error_row_lem w0.at w0.buffer.now w1.at n first code error parsed w1.buffer.now w2.buffer.now w3.buffer.now w4.buffer.now w5.buffer.now
+          w3.at w4.at w5.at (boxed.put room) digits
+          (numbers n (omega (arith, boxed.same_length)) (omega (arith, boxed.same_length)) number) (decimal_64 first first-small)
           (range.put (omega (arith, boxed.same_length, number.same_length)))
           (omega (arith, boxed.same_length, number.same_length, range.same_length)) command.laid
           (omega (arith, boxed.same_length, number.same_length, range.same_length, name.same_length)) result.laid;
@@ -55,7 +57,8 @@ pub drop_rows_put : (n first last : ℕ) (t : Tally) {reasons dropped : ℕ} {w0
     → Puts 300 (blank_rows reasons) w0 w1 → PutsRight 4 n (standing w1 w0.at) w2 → Puts 41 (range_text first last) (standing w2 (w0.at + 7)) w3
     → Puts 34 (bytes_text dropped ++ ascii " dropped") (standing w3 (w0.at + 20)) w4 → Holds (with_reasons w0.at t w4.buffer.now) w4 w5
     → Puts 300 (drop_rows n first last t) w0 (standing w5 w1.at)
-drop_rows_put n first last t {reasons = reasons} {dropped = dropped} {w0 = w0} {w1 = w1} {w2 = w2} {w3 = w3} {w4 = w4} {w5 = w5} short n_small shown all blank number range fate cells =
+drop_rows_put n first last t {reasons = reasons} {dropped = dropped} {w0 = w0} {w1 = w1} {w2 = w2} {w3 = w3} {w4 = w4} {w5 = w5}
+    short n_small shown all blank number range fate cells =
     let digits = decimal_64 n n_small in
     record {
       same_reference = cells.same_reference ∙ fate.same_reference ∙ range.same_reference ∙ number.same_reference ∙ blank.same_reference;
@@ -64,8 +67,8 @@ drop_rows_put n first last t {reasons = reasons} {dropped = dropped} {w0 = w0} {
       put = λ room.
           let ranged = range.put (omega (arith, blank.same_length, number.same_length)) in
           let fated = fate.put (omega (arith, blank.same_length, number.same_length, range.same_length)) in
-          drop_rows_lem w0.at w0.buffer.now w1.at n first last reasons dropped t w1.buffer.now w2.buffer.now w3.buffer.now w4.buffer.now w5.buffer.now w3.at w4.at
-          short shown all (blank.put room) digits (numbers n (omega (arith, blank.same_length)) (omega (arith, blank.same_length)) number) ranged
+          drop_rows_lem w0.at w0.buffer.now w1.at n first last reasons dropped t w1.buffer.now w2.buffer.now w3.buffer.now w4.buffer.now w5.buffer.now
+          w3.at w4.at short shown all (blank.put room) digits (numbers n (omega (arith, blank.same_length)) (omega (arith, blank.same_length)) number) ranged
           (omega (arith, ranged.next_is, range.short)) fated (omega (arith, fated.next_is, fate.short)) cells.bytes_are;
     }
 
@@ -73,7 +76,8 @@ pub waiting_row_put : (first behind : ℕ) {last left : ℕ} {w0 w1 w2 w3 w4 w5 
     → Puts 1 (ascii "-") (standing w1 (w0.at + 3)) w2 → Puts 41 (range_text first last) (standing w2 (w0.at + 7)) w3
     → Puts 34 (bytes_text left ++ ascii " waiting") (standing w3 (w0.at + 20)) w4 → Puts 17 (ascii "not a whole frame") (standing w4 (w0.at + 50)) w5
     → Puts 100 (waiting_row first behind) w0 (standing w5 w1.at)
-waiting_row_put first behind {last = last} {left = left} {w0 = w0} {w1 = w1} {w2 = w2} {w3 = w3} {w4 = w4} {w5 = w5} last_is left-is boxed dash range fate words =
+waiting_row_put first behind {last = last} {left = left} {w0 = w0} {w1 = w1} {w2 = w2} {w3 = w3} {w4 = w4} {w5 = w5} last_is left-is boxed dash range fate
+    words =
     record {
       same_reference = words.same_reference ∙ fate.same_reference ∙ range.same_reference ∙ dash.same_reference ∙ boxed.same_reference;
       same_length = words.same_length ∙ fate.same_length ∙ range.same_length ∙ dash.same_length ∙ boxed.same_length;
@@ -81,7 +85,8 @@ waiting_row_put first behind {last = last} {left = left} {w0 = w0} {w1 = w1} {w2
       put = λ room.
           let ranged = range.put (omega (arith, boxed.same_length, dash.same_length)) in
           let fated = fate.put (omega (arith, boxed.same_length, dash.same_length, range.same_length)) in
-          waiting_row_lem w0.at w0.buffer.now w1.at first behind last left w1.buffer.now w2.buffer.now w3.buffer.now w4.buffer.now w5.buffer.now w2.at w3.at w4.at
-          w5.at last_is left-is (boxed.put room) (dash.put (omega (arith, boxed.same_length))) ranged (omega (arith, ranged.next_is, range.short)) fated
+          waiting_row_lem w0.at w0.buffer.now w1.at first behind last left w1.buffer.now w2.buffer.now w3.buffer.now w4.buffer.now w5.buffer.now
+          w2.at w3.at w4.at w5.at last_is left-is (boxed.put room)
+          (dash.put (omega (arith, boxed.same_length))) ranged (omega (arith, ranged.next_is, range.short)) fated
           (omega (arith, fated.next_is, fate.short)) (words.put (omega (arith, boxed.same_length, dash.same_length, range.same_length, fate.same_length)));
     }

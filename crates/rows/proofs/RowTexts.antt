@@ -77,7 +77,8 @@ module _ (n : ℕ) (item : Item) (code : ℕ) (parsed : Parsed) {before after : 
   unfolding item_rows
   drops_item none put = rw (eq-eqb item.error 0 none, pick_true) put
 
-  pub error_item : (item.error ≡ 0 → ⊥) → Puts 100 (error_row n item.first code parsed item.error) before after → Puts 300 (item_rows n item code parsed) before after
+  pub error_item : (item.error ≡ 0 → ⊥) → Puts 100 (error_row n item.first code parsed item.error) before after
+      → Puts 300 (item_rows n item code parsed) before after
   unfolding item_rows
   error_item some put = more_room {most = 100} 300 (omega arith) (rw (ne_eqb item.error 0 some, pick_false) put)
 

@@ -69,7 +69,9 @@ module _ {most : ℕ} {piece : List ℕ} {before after : Writer} where
   puts_within room puts =
       record {
         same_reference = puts.same_reference;
-        laid = put_within most piece before.at before.buffer.now after.buffer.now after.at (there_reaches before.buffer.now before.at most room) puts.short (puts.put room);
+        laid =
+            put_within most piece before.at before.buffer.now after.buffer.now after.at
+            (there_reaches before.buffer.now before.at most room) puts.short (puts.put room);
       }
 
   -- the same piece, in other words, and with more room than it may take

@@ -7,4 +7,5 @@ use Rattle.naming.proofs.errors.put_error_text.Goals as goal
 pub returns : goal.returns
 unfolding error_text
 returns c =
-    put_behind (put_behind (hex_put _ c.put_hex.ensures) (word_put c.put_text.ensures)) (text_put 33 c.error_words.ensures (error_words_short _) c.put_text-2.ensures)
+    put_behind (put_behind (hex_put _ c.put_hex.ensures) (word_put c.put_text.ensures))
+    (text_put 33 c.error_words.ensures (error_words_short _) c.put_text-2.ensures)

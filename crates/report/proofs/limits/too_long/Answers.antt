@@ -11,5 +11,6 @@ returns-then-commands-gt32768 c = by_commands _ _ c.if-commands-gt32768.true
 
 pub returns-else-commands-gt32768 : goal.returns-else-commands-gt32768
 returns-else-commands-gt32768 c =
-    let long = any_from_yields_List (ltb 2048) _ _ c.any.result c.any.ensures.ran (YieldsList-from_slice c.args.sizes.now cc) (λ x b q k. search (rules, tests)) in
+    let long = any_from_yields_List (ltb 2048) _ _ c.any.result c.any.ensures.ran
+    (YieldsList-from_slice c.args.sizes.now cc) (λ x b q k. search (rules, tests)) in
     by_sizes _ _ _ c.if-commands-gt32768.false long

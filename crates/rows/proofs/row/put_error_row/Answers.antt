@@ -6,5 +6,6 @@ use Rattle.rows.proofs.row.put_error_row.Goals as goal
 
 pub returns : goal.returns
 returns c =
-    error_row_put _ _ _ _ _ (omega arith) (omega arith) c.put_boxed.ensures c.put_right.ensures (decimal_put (omega arith) c.put_decimal.ensures) c.put_command.ensures
+    error_row_put _ _ _ _ _ (omega arith) (omega arith) c.put_boxed.ensures c.put_right.ensures
+    (decimal_put (omega arith) c.put_decimal.ensures) c.put_command.ensures
     c.put_error.ensures

@@ -7,7 +7,8 @@ use Rattle.rows.proofs.row.put_range.Goals as goal
 pub returns-then-first-last : goal.returns-then-first-last
 returns-then-first-last c =
     range_two _ _ c.if-first-last.true
-    (put_behind (put_behind (decimal_put (omega arith) c.put_decimal.ensures) (word_put c.put_text.ensures)) (decimal_put (omega arith) c.put_decimal-then-first-last.ensures))
+    (put_behind (put_behind (decimal_put (omega arith) c.put_decimal.ensures) (word_put c.put_text.ensures))
+    (decimal_put (omega arith) c.put_decimal-then-first-last.ensures))
 
 pub returns-else-first-last : goal.returns-else-first-last
 returns-else-first-last c = range_one _ _ c.if-first-last.false (decimal_put (omega arith) c.put_decimal.ensures)
