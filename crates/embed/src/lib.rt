@@ -148,17 +148,16 @@ fn call_on(
         (lent_of selection.old (get_or state.old 11 0)) records.old (get_or state.old 12 0) }
 {
     let tags = numbers.len() / 2;
-    let nowhere = Place { from: 0, size: 0 };
-    let mut places = [nowhere; 16];
+    let places = [Place { from: 0, size: 0 }; 16];
+    let mut population = Population { places, tags };
     for i in 0..used_of(tags) {
         let from = numbers[2 * i];
         let size = numbers[2 * i + 1];
-        places[i] = Place {
+        population.places[i] = Place {
             from: from as u32,
             size: size as u32,
         };
     }
-    let population = Population { places, tags };
     let bench = BenchState {
         reader,
         next: state[10] as usize,

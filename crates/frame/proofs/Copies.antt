@@ -1,10 +1,8 @@
 -- Laws of reaching bytes and of copying them: where the bytes are not all there, or have no room, nothing changes; else one byte more
 -- is copied at each turn.
-use Rattle.std.proofs.Common.{◌≡◌, ℕ, ◌+◌, ◌-◌, ◌<◌, ◌≤◌, true, false, leb, List, ◌++◌, length, get_or, take, drop, sym, ap, ◌∙◌, arith, length-drop, length-take-le, get_or-drop, take_all, get_or-take, le-leb, leb-true}
+use Rattle.std.proofs.Common.{◌≡◌, ℕ, ◌+◌, ◌-◌, ◌<◌, ◌≤◌, true, false, leb, List, ◌++◌, length, get_or, set, take, drop, add-one, sym, ap, ◌∙◌, arith, length-drop, length-take-le, get_or-drop, take_all, get_or-take, le-leb, leb-true}
 use borrow.Author.Tests.{lt-leb}
-use borrow.Rule.Slice.PartMut.{put_mid}
-use Rattle.std.proofs.lemmas.Slice.{put_mid-paste}
-use lib.Seq.{sets, sets-eq}
+use lib.Seq.{sets, sets-eq, paste, paste-suc}
 use mathlib.Core.Bool.{and-false}
 use Rattle.frame.specs.Bytes.{part, reaches}
 use Rattle.frame.specs.Copying.{copied}
@@ -54,13 +52,16 @@ module _ (from : List ℕ) (start n : ℕ) (to : List ℕ) (at : ℕ) where
     unfolding copied
     copied_is = simp (there_reaches from start n there, there_reaches to at n room, pick_true)
 
-    -- what `copy_from_slice` leaves of a part that is as long
-    pub copied_mid : (mid : List ℕ) → mid ≡ take (start + n - start) (drop start from) → put_mid at (at + n - at) to mid ≡ copied from start n to at
-    unfolding part
-    copied_mid mid same =
+    pub copied_more : (i : ℕ) → i < n
+        → set (paste to at (part from start n) i) (at + i) (get_or from (start + i) 0) ≡ paste to at (part from start n) (i + 1)
+    copied_more i more =
+        rw (← part_at from start n there i more, add-one)
+        (paste-suc to at (part from start n) i 0 (omega arith) (omega (arith, length_part_inside from start n there)))
+
+    pub copied_whole : paste to at (part from start n) n ≡ copied from start n to at
+    copied_whole =
         let whole : length (part from start n) ≡ n = length_part_inside from start n there in
-        put_mid-paste at (at + n - at) to mid (part from start n) n (same ∙ ap (λ (k : ℕ). take k (drop start from)) (omega arith)) (omega arith) (sym whole)
-        ∙ ap (λ (l : List ℕ). take at to ++ l ++ drop (at + n) to) (take_all n (part from start n) (omega arith))
+        ap (λ (l : List ℕ). take at to ++ l ++ drop (at + n) to) (take_all n (part from start n) (omega arith))
         ∙ ap (λ (k : ℕ). take at to ++ part from start n ++ drop (at + k) to) (sym whole)
         ∙ sym (sets-eq (part from start n) to at (omega arith))
         ∙ sym copied_is

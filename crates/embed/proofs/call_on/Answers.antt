@@ -21,16 +21,17 @@ loop-i-init c =
       few = used_small _ _ c.used_of-i-end.ensures;
       there = used_there numbers _ c.used_of-i-end.ensures;
       small = fit_small numbers c.requires.are_places _ c.used_of-i-end.ensures;
-      row_is = refl;
+      places_are = refl;
+      tags_are = refl;
     }
 
-pub overflow_cast-places : goal.overflow_cast-places
+pub overflow_cast-population : goal.overflow_cast-population
 unfolding limit
-overflow_cast-places c = omega (arith, small_each _ _ c.loop-i.invariant.small (2 * c.loop-i.i) (omega arith))
+overflow_cast-population c = omega (arith, small_each _ _ c.loop-i.invariant.small (2 * c.loop-i.i) (omega arith))
 
-pub overflow_cast-places-in-loop-i : goal.overflow_cast-places-in-loop-i
+pub overflow_cast-population-in-loop-i : goal.overflow_cast-population-in-loop-i
 unfolding limit
-overflow_cast-places-in-loop-i c = omega (arith, small_each _ _ c.loop-i.invariant.small (2 * c.loop-i.i + 1) (omega arith))
+overflow_cast-population-in-loop-i c = omega (arith, small_each _ _ c.loop-i.invariant.small (2 * c.loop-i.i + 1) (omega arith))
 
 pub loop-i-preserved : goal.loop-i-preserved
 loop-i-preserved c =
@@ -40,8 +41,9 @@ loop-i-preserved c =
       few = at.invariant.few;
       there = at.invariant.there;
       small = at.invariant.small;
-      row_is =
-          ap (λ (l : List Place). set l at.i record { from = get_or numbers (2 * at.i) 0; size = get_or numbers (2 * at.i + 1) 0 }) at.invariant.row_is
+      tags_are = at.invariant.tags_are;
+      places_are =
+          ap (λ (l : List Place). set l at.i record { from = get_or numbers (2 * at.i) 0; size = get_or numbers (2 * at.i + 1) 0 }) at.invariant.places_are
           ∙ placed_more numbers at.i;
     }
 
@@ -50,6 +52,8 @@ unfolding listed_by
 returns c =
     let a = c.args in
     let all : c.loop-i.i ≡ c.used_of-i-end.result = omega (arith, c.loop-i-test.false) in
+    let inv = c.loop-i.invariant in
+    let beside = rw inv.tags_are at c.call_beside-listed.ensures in
     let list : c.match-listed.records ≡ listed_by a.records.now (get_or a.state.now 12 0) c.call_beside-listed.result.failure =
     elim c.match-listed.branch [
       | in-Some w ↦ w.records-is ∙ w.add_numbers.ensures ∙ sym (ap (listed_by _ _) w.in-Some.is)
@@ -57,7 +61,7 @@ returns c =
     ]
     in
     packed_step a.input.now a.memory.now a.output.now a.numbers.now a.selection.now a.records.now a.state.now a.reader _ c.used_of-i-end.ensures
-    c.loop-i.places (c.loop-i.invariant.row_is ∙ ap (placed _) all) _ _ _ _ c.call_beside-listed.ensures _ _ _ c.tell.ensures.0 list
+    c.loop-i.population.places (inv.places_are ∙ ap (placed _) all) _ _ _ _ beside _ _ _ c.tell.ensures.0 list
     (c.tell.ensures.1
-    ∙ stored_is a.input.now a.memory.now a.output.now c.loop-i.places _ _ a.selection.now a.state.now a.reader _ _ _ _ _ c.told-state
-    c.requires.fits c.call_beside-listed.ensures)
+    ∙ stored_is a.input.now a.memory.now a.output.now c.loop-i.population.places _ _ a.selection.now a.state.now a.reader _ _ _ _ _ c.told-state
+    c.requires.fits beside)

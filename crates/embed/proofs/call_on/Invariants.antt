@@ -1,4 +1,4 @@
--- `call_on` meets its contract: the crate's call between unpacking and storing. The loop's invariant: the row has the places of the first i tags.
+-- `call_on` meets its contract: the crate's call between unpacking and storing. The loop's invariant: the crate has the places of the first i tags.
 use Prim.Native.Nat.{◌*◌, ◌≤◌}
 use lib.ListN.{length}
 use mathlib.Core.Bool.{true}
@@ -13,5 +13,6 @@ invariant-loop-i l =
       few : l.i-end ≤ 16;
       there : 2 * l.i-end ≤ length l.numbers;
       small : all_below (small_at l.numbers) (2 * l.i-end) ≡ true;
-      row_is : l.places ≡ placed l.numbers l.i;
+      places_are : l.population.places ≡ placed l.numbers l.i;
+      tags_are : l.population.tags ≡ l.tags;
     }
