@@ -18,6 +18,7 @@ fn is_selected(memory: &[u8], place: Place, selection: &[u8]) -> bool
 
 impl Population {
     // The number and the place of the lowest tag from number `start` on. More than sixteen tags are none.
+    #[inline(always)]
     pub fn lowest(&self, memory: &[u8], selection: &[u8], start: usize) -> Option<(usize, Place)>
         ensures { result ≡ lowest memory.now self.now.tags self.now.places selection.now start }
     {

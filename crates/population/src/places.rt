@@ -35,6 +35,7 @@ impl Place {
     }
 
     // The place is in the memory, and the image there is good.
+    #[inline(always)]
     fn is_good_in(self, memory: &[u8]) -> bool
         ensures { result ≡ good_alone memory.now self }
     {
