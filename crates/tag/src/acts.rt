@@ -15,21 +15,24 @@ use image::header::view_of;
 
 // The access password stands four bytes behind the Reserved offset, which bytes 6 and 7 hold.
 #[tactic(auto, unfolding(crate::specs::Locks::standing))]
-fn standing_to(image: &[u8], given: u32) -> Standing
+fn standing_to(image: &[u8], given: usize) -> Standing
     ensures { result ≡ standing image.now given }
 {
     locks::standing_of(
-        double_at(image, usize::from(number_at(image, 6)) + 4),
+        double_at(image, usize::from(number_at(image, 6)) + 4) as usize,
         given,
     )
 }
 
 // The kill password stands at the Reserved offset.
 #[tactic(auto, unfolding(crate::specs::Locks::kill_standing))]
-fn kill_standing_to(image: &[u8], given: u32) -> KillStanding
+fn kill_standing_to(image: &[u8], given: usize) -> KillStanding
     ensures { result ≡ kill_standing image.now given }
 {
-    locks::kill_standing_of(double_at(image, usize::from(number_at(image, 6))), given)
+    locks::kill_standing_of(
+        double_at(image, usize::from(number_at(image, 6))) as usize,
+        given,
+    )
 }
 
 // What a parsed command comes to; of its parameters only a Write's data is looked at again.

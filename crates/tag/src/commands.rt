@@ -6,24 +6,24 @@ pub enum Parsed {
     Malformed,
     Inventory,
     Read {
-        password: u32,
+        password: usize,
         bank: usize,
         pointer: usize,
         count: usize,
     },
     Write {
-        password: u32,
+        password: usize,
         bank: usize,
         pointer: usize,
         count: usize,
     },
     Lock {
-        password: u32,
+        password: usize,
         mask: usize,
         action: usize,
     },
     Kill {
-        password: u32,
+        password: usize,
     },
 }
 

@@ -42,7 +42,7 @@ pub(crate) fn pairs_of(bits: usize) -> Pairs
 }
 
 #[tactic(auto, using(crate::proofs::Tests::tests), unfolding(crate::specs::Locks::standing_of, frame::specs::Bytes::pick))]
-pub(crate) fn standing_of(stored: u32, given: u32) -> Standing
+pub(crate) fn standing_of(stored: usize, given: usize) -> Standing
     ensures { result ≡ standing_of stored given }
 {
     if given == stored {
@@ -55,7 +55,7 @@ pub(crate) fn standing_of(stored: u32, given: u32) -> Standing
 }
 
 #[tactic(auto, using(crate::proofs::Tests::tests), unfolding(crate::specs::Locks::kill_standing_of, frame::specs::Bytes::pick))]
-pub(crate) fn kill_standing_of(stored: u32, given: u32) -> KillStanding
+pub(crate) fn kill_standing_of(stored: usize, given: usize) -> KillStanding
     ensures { result ≡ kill_standing_of stored given }
 {
     if stored == 0 {

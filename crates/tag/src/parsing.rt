@@ -47,7 +47,7 @@ fn parse_read(p: &[u8]) -> Parsed
         return Parsed::Malformed;
     }
     Parsed::Read {
-        password: double_at(p, 0),
+        password: double_at(p, 0) as usize,
         bank: usize::from(bank_number(p)),
         pointer: usize::from(number_at(p, 5)),
         count: usize::from(number_at(p, 7)),
@@ -63,7 +63,7 @@ fn parse_write(p: &[u8]) -> Parsed
         return Parsed::Malformed;
     }
     Parsed::Write {
-        password: double_at(p, 0),
+        password: double_at(p, 0) as usize,
         bank: usize::from(bank_number(p)),
         pointer: usize::from(number_at(p, 5)),
         count,
@@ -79,7 +79,7 @@ fn parse_lock(p: &[u8]) -> Parsed
         return Parsed::Malformed;
     }
     Parsed::Lock {
-        password: double_at(p, 0),
+        password: double_at(p, 0) as usize,
         mask: ld / 1024,
         action: ld % 1024,
     }
@@ -93,7 +93,7 @@ fn parse_kill(p: &[u8]) -> Parsed
         return Parsed::Malformed;
     }
     Parsed::Kill {
-        password: double_at(p, 0),
+        password: double_at(p, 0) as usize,
     }
 }
 
