@@ -238,9 +238,6 @@ module _ (input memory output : List ℕ) (reader : Reader) (job : Job) (can : D
   shown : (kind : Job) → job ≡ kind → Doable input memory output reader kind
   shown kind e = subst (Doable input memory output reader) e can
 
-  pub can_drop : (r : Reason) → job ≡ DropByte r → reader.cursor < length input
-  can_drop r e = shown (DropByte r) e
-
   pub can_select : (pl : ℕ) → job ≡ Select pl → Framed input output reader pl
   can_select pl e = shown (Select pl) e
 

@@ -16,14 +16,6 @@ use Rattle.frame.proofs.Tests.{and_left, and_right, either}
 -- ---- how many are kept
 
 module _ (room held n : ℕ) where
-  pub may_remove_lem : n ≤ held → held ≤ room → may_remove room held n ≡ true
-  may_remove_lem few fits = simp (le-leb n held few, le-leb held room fits)
-
-  pub too_many_go : held < n → may_remove room held n ≡ false
-  too_many_go many = simp (lt-leb n held many)
-
-  pub too_many_held : room < held → may_remove room held n ≡ false
-  too_many_held above = either (leb n held) (λ e. simp (e, lt-leb held room above)) (λ e. simp e)
 
   pub few_go : may_remove room held n ≡ true → n ≤ held
   few_go may = leb-true n held (and_left (leb n held) (leb held room) may)

@@ -5,7 +5,7 @@ ghost use Rattle.failures.specs.Lists.{may_remove, kept_of, moved_up};
 
 use crate::record::Record;
 
-// A place behind the room changes nothing, so that a call that lists no failure names such a one.
+// A place behind the room changes nothing.
 pub fn add(records: &mut [Record], at: usize, item: Record)
     ensures { records.new ≡ set records.old at item }
 {

@@ -1,23 +1,11 @@
 -- Laws of reaching bytes and of copying them: where the bytes are not all there, or have no room, nothing changes; else one byte more
 -- is copied at each turn.
 use Rattle.std.proofs.Common.{◌≡◌, ℕ, ◌+◌, ◌-◌, ◌<◌, ◌≤◌, true, false, leb, List, ◌++◌, length, get_or, set, take, drop, add-one, sym, ap, ◌∙◌, arith, length-drop, length-take-le, get_or-drop, take_all, get_or-take, le-leb, leb-true}
-use borrow.Author.Tests.{lt-leb}
 use lib.Seq.{sets, sets-eq, paste, paste-suc}
 use mathlib.Core.Bool.{and-false}
 use Rattle.frame.specs.Bytes.{part, reaches}
 use Rattle.frame.specs.Copying.{copied}
 use Rattle.frame.proofs.Picks.{pick_true, pick_false}
-
--- a difference compared in the place of a sum
-module _ (at n room : ℕ) where
-  pub starts_behind : room < at → false ≡ leb (at + n) room
-  starts_behind h = sym (lt-leb (at + n) room (omega arith))
-
-  pub ends_behind : at ≤ room → room - at < n → false ≡ leb (at + n) room
-  ends_behind from h = sym (lt-leb (at + n) room (omega arith))
-
-  pub ends_in_time : at ≤ room → n ≤ room - at → true ≡ leb (at + n) room
-  ends_in_time from h = sym (le-leb (at + n) room (omega arith))
 
 module _ (bytes : List ℕ) (i n : ℕ) where
   pub there_reaches : i + n ≤ length bytes → reaches bytes i n ≡ true

@@ -23,12 +23,6 @@ module _ (test : ℕ → Bool) where
       let k : n ≡ suc n - 1 = omega arith in
       ap (λ (m : ℕ). test m && all_below test m) k
 
-  pub below_holds : (n : ℕ) → 0 < n → test (n - 1) ≡ true → all_below test n ≡ all_below test (n - 1)
-  below_holds n h t = one_less n h ∙ ap (λ (b : Bool). b && all_below test (n - 1)) t
-
-  pub below_fails : (n : ℕ) → 0 < n → test (n - 1) ≡ false → all_below test n ≡ false
-  below_fails n h t = one_less n h ∙ ap (λ (b : Bool). b && all_below test (n - 1)) t
-
 -- ---- number by number
 
 pub below_each : (test : ℕ → Bool) (n : ℕ) → all_below test n ≡ true → (k : ℕ) → k < n → test k ≡ true

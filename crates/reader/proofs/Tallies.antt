@@ -26,14 +26,6 @@ pub not_at_limit : (n : ℕ) (counts : List ℕ) {b : Bool} → (n ≡ limit →
 unfolding any_at_limit
 not_at_limit n counts d e = simp (ne_eqb n limit d) e
 
-pub last_count : (n : ℕ) → any_at_limit (n ∷ []) ≡ eqb n limit
-unfolding any_at_limit
-last_count n = by_cases (eqb n limit)
-  where
-    by_cases : (b : Bool) → (b || false) ≡ b
-    by_cases true = refl
-    by_cases false = refl
-
 -- no count is at the limit where all together are below it
 pub few_counts : (counts : List ℕ) (n : ℕ) → sum counts ≤ n → n < limit → any_at_limit counts ≡ false
 unfolding any_at_limit sum
