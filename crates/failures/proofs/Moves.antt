@@ -1,6 +1,6 @@
 -- A removal in its places: how many records are kept, what one move makes of the places moved so far, and how many places there are.
 use Prim.Native.Nat.{ℕ, zero, suc, ◌<◌, ◌≤◌, ◌+◌, ◌-◌}
-use borrow.Author.Tests.{leb-true, le-leb, lt-leb}
+use borrow.Author.Tests.{leb-true}
 use lib.Dec.{leb}
 use lib.ListN.{length, get_or, set, take, drop, length-drop}
 use lib.Seq.{length-take-le, length_front, take-suc, drop-cons, set_at, get_or-append-add, get_or-drop}
@@ -16,7 +16,6 @@ use Rattle.frame.proofs.Tests.{and_left, and_right, either}
 -- ---- how many are kept
 
 module _ (room held n : ℕ) where
-
   pub few_go : may_remove room held n ≡ true → n ≤ held
   few_go may = leb-true n held (and_left (leb n held) (leb held room) may)
 

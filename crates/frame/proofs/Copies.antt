@@ -1,6 +1,6 @@
 -- Laws of reaching bytes and of copying them: where the bytes are not all there, or have no room, nothing changes; else one byte more
 -- is copied at each turn.
-use Rattle.std.proofs.Common.{◌≡◌, ℕ, ◌+◌, ◌-◌, ◌<◌, ◌≤◌, true, false, leb, List, ◌++◌, length, get_or, set, take, drop, add-one, sym, ap, ◌∙◌, arith, length-drop, length-take-le, get_or-drop, take_all, get_or-take, le-leb, leb-true}
+use Rattle.std.proofs.Common.{◌≡◌, ℕ, ◌+◌, ◌<◌, ◌≤◌, true, false, List, ◌++◌, length, get_or, set, take, drop, add-one, sym, ap, ◌∙◌, arith, length-drop, length-take-le, get_or-drop, take_all, get_or-take, le-leb, leb-true}
 use lib.Seq.{sets, sets-eq, paste, paste-suc}
 use mathlib.Core.Bool.{and-false}
 use Rattle.frame.specs.Bytes.{part, reaches}

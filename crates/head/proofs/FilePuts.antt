@@ -8,7 +8,7 @@ use mathlib.Core.List.{List, [], ◌∷◌, ◌++◌, append_assoc, append-nil}
 use mathlib.Core.Path.{◌≡◌, refl, ap, sym, subst, ◌∙◌}
 use native.Mathlib.Numerals.{add-one}
 use native.Mathlib.Omega.{arith}
-use Rattle.frame.proofs.Picks.{by_test, pick_true, pick_false}
+use Rattle.frame.proofs.Picks.{pick_true, pick_false}
 use Rattle.frame.specs.Bytes.{pick}
 use Rattle.frame.specs.Putting.{Put}
 use Rattle.text.proofs.Overlays.{overlay}

@@ -1,27 +1,18 @@
 -- Laws of a test of every number below n.
-use Prim.Native.Nat.{ℕ, zero, suc, ◌+◌, ◌-◌, ◌<◌}
+use Prim.Native.Nat.{ℕ, zero, suc, ◌+◌, ◌<◌}
 use borrow.Author.Tests.{eqb-true, eqb-false}
 use lib.Dec.{eqb}
-use mathlib.Core.Bool.{Bool, true, false, ◌&&◌, true≢false}
+use mathlib.Core.Bool.{Bool, true, false, true≢false}
 use mathlib.Core.Path.{◌≡◌, refl, ap, sym, ◌∙◌}
 use native.Mathlib.Omega.{arith}
 use Rattle.frame.proofs.Tests.{and_left, and_right, and_both, either}
 use Rattle.population.specs.Below.{all_below}
-
--- ---- as a loop that counts down comes upon it
 
 module _ (test : ℕ → Bool) where
   pub none_below : (n : ℕ) → n ≡ 0 → all_below test n ≡ true
   unfolding all_below
   none_below zero h = refl
   none_below (suc n) h = absurd (omega arith)
-
-  one_less : (n : ℕ) → 0 < n → all_below test n ≡ (test (n - 1) && all_below test (n - 1))
-  unfolding all_below
-  one_less zero h = absurd (omega arith)
-  one_less (suc n) h =
-      let k : n ≡ suc n - 1 = omega arith in
-      ap (λ (m : ℕ). test m && all_below test m) k
 
 -- ---- number by number
 

@@ -7,7 +7,7 @@ use mathlib.Core.Path.{◌≡◌, refl, ap, sym, subst, ◌∙◌}
 use native.Mathlib.Numerals.{add-one}
 use native.Mathlib.Omega.{arith}
 use Rattle.report.specs.Lines.{separator, frame_line}
-use Rattle.text.proofs.Writing.{nothing_put, hex_put, put_behind, same_piece, more_room}
+use Rattle.text.proofs.Writing.{hex_put, put_behind, same_piece, more_room}
 use Rattle.text.specs.Digits.{hex_byte}
 use Rattle.text.specs.Writing.{Lays, Puts}
 use Rattle.text.specs.declared.writer.Writer.{Writer}

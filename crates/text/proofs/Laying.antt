@@ -2,16 +2,13 @@
 use Prim.Native.Nat.{ℕ, ◌+◌, ◌≤◌, ◌<◌}
 use borrow.Author.Tests.{lt-leb}
 use mathlib.Core.Bool.{true, false}
-use mathlib.Core.List.{List, ◌++◌}
+use mathlib.Core.List.{List}
 use mathlib.Core.Path.{◌≡◌, ◌∙◌}
-use native.Mathlib.Omega.{arith}
 use lib.ListN.{length}
 use Rattle.frame.proofs.Copies.{there_reaches}
 use Rattle.frame.proofs.Picks.{pick_true, pick_false}
-use Rattle.frame.proofs.Stores.{length_put}
 use Rattle.frame.specs.Bytes.{reaches}
 use Rattle.frame.specs.Putting.{Put}
-use Rattle.text.proofs.Puts.{put_join}
 use Rattle.text.specs.Laying.{Laid, LaidWithin}
 
 module _ (piece : List ℕ) (at : ℕ) (before : List ℕ) where

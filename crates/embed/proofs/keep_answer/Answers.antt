@@ -1,6 +1,4 @@
 -- `keep_answer` meets its contract.
-use lib.ListN.{length-set}
-use native.Mathlib.Omega.{arith}
 use Rattle.embed.specs.Kept.{kept_answer}
 use Rattle.embed.proofs.keep_answer.Goals as goal
 

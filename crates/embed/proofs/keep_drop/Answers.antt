@@ -1,6 +1,4 @@
 -- `keep_drop` meets its contract, reason by reason.
-use lib.ListN.{length-set}
-use native.Mathlib.Omega.{arith}
 use Rattle.embed.proofs.Keeping.{drop_stored}
 use Rattle.frame.specs.declared.finding.Reason.TheVariants.{NoHeader, WrongType, TooLong, WrongCheck, WrongEnd}
 use Rattle.embed.specs.Kept.{count_for, place_for}
