@@ -10,6 +10,7 @@ use Rattle.frame.proofs.Picks.{pick_true, pick_false}
 use Rattle.frame.specs.Bytes.{pick}
 use Rattle.tag.specs.Claims.{PairBits, LockTable, Regions, RangeBeforeLock, Standings, PairTable}
 use Rattle.tag.specs.Commands.{if_present, admitted, outside, read_act, read_verdict, write_act, write_verdict, of_tag}
+use Rattle.tag.specs.Errors.{tag_byte}
 use Rattle.tag.specs.Locks.{pairs, standing_of, is_secured, allows, touches, may_touch_passwords, may_read, may_write, permalocked, refuses_pair, new_bit, masked_pair, new_pair}
 use Rattle.image.specs.declared.header.View.{View}
 use Rattle.tag.specs.declared.locks.Standing.{Standing}
@@ -51,11 +52,13 @@ regions v s pointer n =
     }
 
 pub range_before_lock : (v : View) (s : Standing) (bank pointer n : ℕ) (words : List ℕ) → RangeBeforeLock v s bank pointer n words
-unfolding read_verdict read_act write_verdict write_act admitted if_present of_tag outside
+unfolding read_verdict read_act write_verdict write_act admitted if_present of_tag outside tag_byte
 range_before_lock v s bank pointer n words =
     record {
       read = λ g w far. simp (g, w, lt-ltb _ _ far, pick_true, pick_false);
+      read_byte = refl;
       write = λ g w far. simp (g, w, lt-ltb _ _ far, pick_true, pick_false);
+      write_byte = refl;
     }
 
 pub standings : (stored given : ℕ) → Standings stored given

@@ -11,7 +11,7 @@ use Rattle.tag.specs.Answers.{answer, changed}
 use Rattle.tag.specs.Commands.{act_of, gone, read_verdict, write_verdict}
 use Rattle.image.specs.Image.{bank_of}
 use Rattle.tag.specs.Locks.{pairs, standing_of, is_wrong, allows, may_read, may_write, refuses_pair, new_pair}
-use Rattle.tag.specs.Errors.{Verdict}
+use Rattle.tag.specs.Errors.{tag_byte, Verdict}
 use Rattle.tag.specs.declared.errors.Refusal.TheVariants.{Tag}
 use Rattle.tag.specs.declared.errors.TagError.TheVariants.{ReadOutside, WriteOutside}
 use Rattle.image.specs.declared.header.View.{View}
@@ -300,7 +300,9 @@ pub record Regions (v : View) (s : Standing) (pointer n : ℕ) : Type 0 where
 -- "Testing the lock before the range" is an error: whatever the locks, words that the bank does not have answer A3 and B3.
 pub record RangeBeforeLock (v : View) (s : Standing) (bank pointer n : ℕ) (words : List ℕ) : Type 0 where
   pub read : gone v ≡ false → is_wrong s ≡ false → (bank_of v bank).words < pointer + n → read_verdict v s bank pointer n ≡ Err (Tag ReadOutside)
+  pub read_byte : tag_byte ReadOutside ≡ 0xA3
   pub write : gone v ≡ false → is_wrong s ≡ false → (bank_of v bank).words < pointer + n → write_verdict v s bank pointer n words ≡ Err (Tag WriteOutside)
+  pub write_byte : tag_byte WriteOutside ≡ 0xB3
 
 -- "A tag is secured for one command if its stored access password is zero and the command's is zero, or the command's is nonzero and
 -- equal. A nonzero password that differs is wrong, also where the stored one is zero. A zero password against a nonzero stored one
