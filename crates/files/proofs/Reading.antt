@@ -5,9 +5,17 @@ use lib.Seq.{take_all, take-set-le, get_or-set_same}
 use mathlib.Core.List.{List, [], ◌∷◌}
 use mathlib.Core.Path.{◌≡◌, refl, ap, ◌∙◌}
 use native.Mathlib.Omega.{arith}
+use Rattle.files.specs.Reads.{before_failure}
+use Rattle.files.specs.declared.ReadError.{ReadError}
+use Rattle.files.specs.declared.ReadError.TheVariants.{Unreadable}
 use Rattle.frame.specs.Frames.{sum}
 use Rattle.io.proofs.Counting.{prefix_len_of_le}
 use Rattle.io.specs.Counts.{IsPrefixLen}
+
+-- what had come of a file when a read failed
+pub came : (e : ReadError) (n most : ℕ) → e ≡ Unreadable n → before_failure e ≤ most → n ≤ most
+unfolding before_failure
+came e n most is h = rw is at h
 
 -- one file more
 sum_next : (sizes : List ℕ) (i : ℕ) → sum (take (suc i) sizes) ≡ sum (take i sizes) + get_or sizes i 0

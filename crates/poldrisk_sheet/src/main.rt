@@ -8,7 +8,7 @@ ghost use Rattle.sheet.specs.Writing.{begun, standing_at};
 
 use console::STDOUT_FILENO;
 use console::places::places_of;
-use files::tags::{Tags, read_tags};
+use files::tags::{Tags, UnreadableTags, read_tags};
 use files::{ReadError, read_file, read_or_empty};
 use page::beginning::begin;
 use population::places::Population;
@@ -88,7 +88,9 @@ fn main(rt: HostRuntime) {
     let tags = match one {
         Ok(length) => Ok(Tags { count: 1, length }),
         Err(ReadError::NotOpened) => read_tags(&rt, &mut memory, &mut sizes),
-        Err(unreadable) => Err(unreadable),
+        Err(ReadError::Unreadable(length)) => Err(UnreadableTags {
+            read: Tags { count: 1, length },
+        }),
     };
     let (Ok(length), Ok(tags)) = (length, tags) else {
         print(false, false, &[], &mut [], &[]);
